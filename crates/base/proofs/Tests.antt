@@ -1,0 +1,55 @@
+-- Laws of tests and of answers. Assumes nothing.
+use mathlib.Core.Path.{_≡_, refl, sym, ap, _∙_}
+use mathlib.Core.Bool.{Bool, true, false, cond, _&&_}
+use mathlib.Core.List.{List, [], _∷_, _++_}
+use Prim.Native.Nat.{ℕ}
+use native.Mathlib.Omega.{arith}
+use lib.Dec.{eqb}
+use borrow.Author.Tests.{eqb-true}
+use Rattle.base.specs.Refusals.{Refusal, allHold, answer}
+
+-- a result that a contract gives as x, and a test found to be y
+pub told : {A : Type 0} {r x y : A} → r ≡ x → r ≡ y → x ≡ y
+told p q = sym p ∙ q
+
+pub true-false : {A : Type 0} → true ≡ false → A
+true-false e = let z : _≡_ {A = ℕ} 0 1 = cc in absurd (omega arith)
+
+pub both : (a b : Bool) → (a && b) ≡ true → (a ≡ true) × (b ≡ true)
+both true b e = (refl, e)
+both false b e = true-false (sym e)
+
+-- a claim about a choice, by the test
+pub by-test : {A : Type 0} (P : A → Type 0) (b : Bool) (x y : A) → (b ≡ true → P x) → (b ≡ false → P y) → P (cond b x y)
+by-test P true x y f g = f refl
+by-test P false x y f g = g refl
+
+-- no refusal of the list has the number of `done`
+unfoldable pub numbered : {Field : Type 0} → List (Refusal Field) → Bool
+numbered [] = true
+numbered (r ∷ rs) = cond (eqb (r .number) 0) false (numbered rs)
+
+numbered-head : (a b : Bool) → cond a false b ≡ true → (a ≡ false) × (b ≡ true)
+numbered-head true b e = true-false (sym e)
+numbered-head false b e = (refl, e)
+
+-- the answer of two lists, one after the other
+pub answer-append : {Field : Type 0} (rs qs : List (Refusal Field)) → numbered rs ≡ true → answer (rs ++ qs) ≡ cond (eqb (answer rs) 0) (answer qs) (answer rs)
+unfolding answer numbered
+answer-append [] qs e = refl
+answer-append (r ∷ rs) qs e =
+    let h = numbered-head (eqb (r .number) 0) (numbered rs) e in
+    go (allHold (r .tests)) (answer (rs ++ qs)) (answer qs) (answer rs) (r .number) (answer-append rs qs (h .1)) (h .0)
+  where
+    go : (b : Bool) (w q a k : ℕ) → w ≡ cond (eqb a 0) q a → eqb k 0 ≡ false → cond b w k ≡ cond (eqb (cond b a k) 0) q (cond b a k)
+    go true w q a k i h = i
+    go false w q a k i h = rw h
+
+-- where the answer is 0, the first refusal's tests hold and so do the rest
+pub answer-passed : {Field : Type 0} (r : Refusal Field) (rs : List (Refusal Field)) → eqb (r .number) 0 ≡ false → answer (r ∷ rs) ≡ 0 → (allHold (r .tests) ≡ true) × (answer rs ≡ 0)
+unfolding answer
+answer-passed r rs h e = go (allHold (r .tests)) (answer rs) (r .number) h e
+  where
+    go : (b : Bool) (a k : ℕ) → eqb k 0 ≡ false → cond b a k ≡ 0 → (b ≡ true) × (a ≡ 0)
+    go true a k h e = (refl, e)
+    go false a k h e = true-false (sym (ap (λ (x : ℕ). eqb x 0) e) ∙ h)

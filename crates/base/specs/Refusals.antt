@@ -1,0 +1,57 @@
+-- The refusals of document 01 by number, and how an ordered list of them gives an answer. Assumes nothing.
+use Prim.Native.Nat.{ℕ}
+use mathlib.Core.Bool.{Bool, true, false, cond, _&&_}
+use mathlib.Core.List.{List, [], _∷_}
+
+abbrev pub done : ℕ
+done = 0
+
+abbrev pub refusedCell : ℕ
+refusedCell = 1
+
+abbrev pub refusedCut : ℕ
+refusedCut = 2
+
+abbrev pub refusedKind : ℕ
+refusedKind = 3
+
+abbrev pub refusedLength : ℕ
+refusedLength = 4
+
+abbrev pub refusedHost : ℕ
+refusedHost = 5
+
+abbrev pub refusedTick : ℕ
+refusedTick = 6
+
+abbrev pub refusedParty : ℕ
+refusedParty = 7
+
+abbrev pub refusedRoom : ℕ
+refusedRoom = 8
+
+-- what has to hold of a field
+pub record Test (Field : Type 0) : Type 0 where
+  pub field : Field
+  pub holds : Bool
+
+abbrev pub test : {Field : Type 0} → Field → Bool → Test Field
+test f b = record { field = f; holds = b }
+
+-- a refusal: its number, and the tests one of which must fail for it
+pub record Refusal (Field : Type 0) : Type 0 where
+  pub number : ℕ
+  pub tests : List (Test Field)
+
+abbrev pub refusal : {Field : Type 0} → ℕ → List (Test Field) → Refusal Field
+refusal k ts = record { number = k; tests = ts }
+
+unfoldable pub allHold : {Field : Type 0} → List (Test Field) → Bool
+allHold [] = true
+allHold (t ∷ []) = t .holds
+allHold (t ∷ (u ∷ ts)) = t .holds && allHold (u ∷ ts)
+
+-- the number of the first refusal that applies, or 0 (done)
+unfoldable pub answer : {Field : Type 0} → List (Refusal Field) → ℕ
+answer [] = done
+answer (r ∷ rs) = cond (allHold (r .tests)) (answer rs) (r .number)

@@ -1,0 +1,18 @@
+// The refusals of document 01 by number. There are no functions here: specs/ and proofs/ hold what every crate cites.
+pub const DONE: u8 = 0;
+
+pub const REFUSED_CELL: u8 = 1;
+
+pub const REFUSED_CUT: u8 = 2;
+
+pub const REFUSED_KIND: u8 = 3;
+
+pub const REFUSED_LENGTH: u8 = 4;
+
+pub const REFUSED_HOST: u8 = 5;
+
+pub const REFUSED_TICK: u8 = 6;
+
+pub const REFUSED_PARTY: u8 = 7;
+
+pub const REFUSED_ROOM: u8 = 8;

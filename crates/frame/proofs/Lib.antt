@@ -1,0 +1,5 @@
+pub mod Answers
+pub mod Round
+pub mod Only
+pub mod Sets
+pub mod Moments

@@ -1,0 +1,104 @@
+use mathlib.Core.Path.{_≡_, refl, sym, ap, _∙_}
+use Prim.Native.Nat.{_+_, _-_, _≤_}
+use native.Mathlib.Omega.{arith}
+use borrow.Author.Needs.{needs}
+use lib.ListN.{length, length-append}
+use lib.Seq.{sets}
+use Rattle.base.proofs.Stores.{sets-append}
+use Rattle.quorum.specs.Sets.{isIn, membersFrom, members}
+use Rattle.quorum.proofs.Laws.{members-end}
+use Rattle.message.specs.Message.{withTarget}
+use Rattle.frame.specs.Writing.{framesIn, partOf}
+use Rattle.frame.proofs.Answers.{frames-step}
+use Rattle.frame.proofs.put_set.Statement.{statement}
+use Rattle.frame.proofs.put_set.Tie as tie
+
+abbrev Inv-loop : tie.InvT-loop
+Inv-loop out₀ f len n set at₀ h₀ out at h =
+    (h ≤ n) × ((length out ≡ length out₀) × ((at + length (framesIn f (membersFrom set h (n - h))) ≤ length out₀)
+    × (sets out at (framesIn f (membersFrom set h (n - h))) ≡ sets out₀ 0 (framesIn f (members n set)))))
+
+abbrev μ-loop : tie.MeasureT-loop
+μ-loop out₀ f len n set at₀ h₀ out at h = n - h
+
+-- what is left is this host's part and the rest
+parts : (c : tie.In-loop Inv-loop μ-loop) →
+    let a = c .before .before .before .args in
+    let l = c .before .loop in
+    length (framesIn (a .f) (membersFrom (a .set) (l .h) (a .n - l .h)))
+    ≡ length (partOf (isIn (a .set) (l .h)) (withTarget (a .f) (l .h))) + length (framesIn (a .f) (membersFrom (a .set) (l .h + 1) (a .n - (l .h + 1))))
+parts c =
+    let a = c .before .before .before .args in
+    let l = c .before .loop in
+    let one = partOf (isIn (a .set) (l .h)) (withTarget (a .f) (l .h)) in
+    ap length (frames-step (a .f) (a .set) (l .h) (a .n) (c .loop-test .taken)) ∙ length-append one (framesIn (a .f) (membersFrom (a .set) (l .h + 1) (a .n - (l .h + 1))))
+
+loop-holds : tie.Need-loop-holds Inv-loop μ-loop
+loop-holds c =
+    let a = c .before .args in
+    let e : a .n - 0 ≡ a .n = omega arith in
+    (omega arith, (refl, (rw e (omega arith), rw e)))
+
+with-target-requires : tie.Need-with-target-requires Inv-loop μ-loop
+with-target-requires c κs = search needs
+
+has-requires : tie.Need-has-requires Inv-loop μ-loop
+has-requires c κs = search needs
+
+put-if-requires : tie.Need-put-if-requires Inv-loop μ-loop
+put-if-requires c κs =
+    let p = c .before .before .before .before .before .before .pre in
+    let w = c .before .with-target .ensures in
+    (rw w (p .1 .0), (p .1 .1 .0, rw (w, c .has .ensures) (omega (arith, parts (c .before .before .before)))))
+
+add-h : tie.Need-add-h Inv-loop μ-loop
+add-h c = search needs
+
+loop-less : tie.Need-loop-less Inv-loop μ-loop
+loop-less c = search needs
+
+loop-again : tie.Need-loop-again Inv-loop μ-loop
+loop-again c =
+    let a = c .before .before .before .before .before .before .before .before .before .args in
+    let l = c .before .before .before .before .before .before .before .loop in
+    let p = c .before .before .put-if in
+    let w = c .before .before .before .before .with-target .ensures in
+    let m = c .before .before .before .has .ensures in
+    let one = partOf (isIn (a .set) (l .h)) (withTarget (a .f) (l .h)) in
+    let more = framesIn (a .f) (membersFrom (a .set) (l .h + 1) (a .n - (l .h + 1))) in
+    let at : p .result ≡ l .at + length one = rw (w, m) at (p .ensures .0) in (
+      omega arith,
+      (
+        p .kept .0 ∙ l .inv .1 .0,
+        (
+          omega (arith, parts (c .before .before .before .before .before .before)),
+          rw (p .ensures .1, at, w, m) (sets-append (l .out) (l .at) one more ∙ ap (sets (l .out) (l .at)) (sym (frames-step (a .f) (a .set) (l .h) (a .n) (c .before .before .before .before .before .before .loop-test .taken))) ∙ l .inv .1 .1 .1),
+        ),
+      ),
+    )
+
+same-length : tie.Need-same-length Inv-loop μ-loop
+same-length c = c .before .loop .inv .1 .0
+
+returns : tie.Need-returns Inv-loop μ-loop
+unfolding framesIn
+returns c =
+    let a = c .before .before .before .args in
+    let l = c .before .loop in
+    rw (members-end (a .set) (l .h) (a .n) (omega arith)) at (l .inv .1 .1 .1)
+
+pub put-set-spec : {M : Type 1} → statement M
+put-set-spec =
+    tie.close
+    (tie.spec
+    Inv-loop
+    μ-loop
+    loop-holds
+    with-target-requires
+    has-requires
+    put-if-requires
+    add-h
+    loop-less
+    loop-again
+    same-length
+    returns)

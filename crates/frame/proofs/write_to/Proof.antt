@@ -1,0 +1,87 @@
+use mathlib.Core.Path.{_≡_, sym, _∙_}
+use Prim.Native.Nat.{_≤_}
+use native.Mathlib.Omega.{arith}
+use lib.ListN.{length}
+use borrow.Author.Tests.{ne-eqb}
+use Rattle.base.proofs.Tests.{told}
+use Rattle.base.proofs.Stores.{sets-front}
+use Rattle.message.specs.Message.{numbersOf}
+use Rattle.message.proofs.Laws.{kind-known, size-most}
+use Rattle.frame.specs.Writing.{framesOf, setAnswer, setWritten, afterSet}
+use Rattle.frame.proofs.Answers.{Free, answer-free, cell-most, set-length, set-found}
+use borrow.Author.Needs.{needs}
+use Rattle.frame.proofs.write_to.Statement.{statement}
+use Rattle.frame.proofs.write_to.Tie as tie
+
+-- the answer that was found is the definition's
+found : (c : tie.After-answer-of) → setAnswer (c .before .before .before .before .before .before .args .n) (c .before .before .before .before .before .before .args .m) (c .before .before .before .before .before .before .args .set) (length (c .before .before .before .before .before .before .args .out .now)) ≡ c .answer-of .result
+found c =
+    let a = c .before .before .before .before .before .before .args in
+    rw (c .answer-of .ensures, c .before .set-fault .ensures, c .before .before .total-of .ensures, c .before .before .before .kind-of .ensures, c .before .before .before .before .numbers-of .ensures)
+    (sym (set-found (a .n) (a .m) (a .set) (length (a .out .now))))
+
+-- where nothing was refused, the cell fits and the frames' length is what was computed
+free : (c : tie.Else1) → Free (c .before .before .before .before .before .before .before .args .n) (c .before .before .set-fault .result) (c .before .before .before .total-of .result) (length (c .before .before .before .before .before .before .before .args .out .now))
+free c = answer-free _ _ _ _ (told (c .before .answer-of .ensures) (c .if1 .left))
+
+long : (c : tie.Else1) → length (framesOf (c .before .before .before .before .before .before .before .args .n) (c .before .before .before .before .before .before .before .args .m) (c .before .before .before .before .before .before .before .args .set)) ≡ c .before .before .before .total-of .result
+long c =
+    let a = c .before .before .before .before .before .before .before .args in
+    let e = told (c .before .before .set-fault .ensures) (free c .message) in
+    rw (c .before .before .before .total-of .ensures, c .before .before .before .before .kind-of .ensures, c .before .before .before .before .before .numbers-of .ensures)
+    (set-length (a .n) (a .m) (a .set) (rw (c .before .before .before .before .before .numbers-of .ensures) at e))
+
+numbers-of-requires : tie.Need-numbers-of-requires
+numbers-of-requires c κs = search needs
+
+kind-of-requires : tie.Need-kind-of-requires
+kind-of-requires c κs = search needs
+
+total-of-requires : tie.Need-total-of-requires
+total-of-requires c κs = rw (c .kind-of .ensures) (size-most (c .before .numbers-of .result .kind))
+
+set-fault-requires : tie.Need-set-fault-requires
+set-fault-requires c κs = search needs
+
+answer-of-requires : tie.Need-answer-of-requires
+answer-of-requires c κs = search needs
+
+returns : tie.Need-returns
+unfolding setWritten afterSet
+returns c =
+    let d = found (c .before) in
+    let e = ne-eqb _ _ (c .if1 .taken) in
+    (rw (d, e), rw (d, e))
+
+put-set-requires : tie.Need-put-set-requires
+unfolding framesOf
+put-set-requires c κs =
+    let k = free (c .before) in
+    let z = long (c .before) in
+    (cell-most (c .before .before .before .before .before .before .before .before .args .n) (k .cell), (rw (c .before .before .before .before .before .kind-of .ensures), (rw (c .before .before .before .before .before .kind-of .ensures, c .before .before .before .before .before .before .numbers-of .ensures) (kind-known (c .before .before .before .before .before .before .before .before .args .m)), rw (c .before .before .before .before .before .before .numbers-of .ensures) (omega (arith, z, k .fits)))))
+
+same-length : tie.Need-same-length
+same-length c = search needs
+
+returns-2 : tie.Need-returns-2
+unfolding setWritten afterSet framesOf
+returns-2 c =
+    let a = c .before .before .before .before .before .before .before .before .before .before .before .args in
+    let d = found (c .before .before .before .before .before) ∙ c .before .before .before .before .if1 .left in
+    let z = long (c .before .before .before .before) in
+    let k : length (framesOf (a .n) (a .m) (a .set)) ≤ length (a .out .now) = omega (arith, z, free (c .before .before .before .before) .fits) in
+    (rw (d, c .before .before .before .before .if1 .left, z), rw d (rw (c .before .before .put-set .ensures, c .before .before .before .before .before .before .before .before .before .numbers-of .ensures) (sets-front (framesOf (a .n) (a .m) (a .set)) (a .out .now) k)))
+
+pub write-to-spec : {M : Type 1} → statement M
+write-to-spec =
+    tie.close
+    (tie.spec
+    numbers-of-requires
+    kind-of-requires
+    total-of-requires
+    set-fault-requires
+    answer-of-requires
+    returns
+    put-set-requires
+    same-length
+    returns-2)

@@ -1,0 +1,174 @@
+// Frames: reading one, writing one to its message's target, and writing one message to a set of receivers.
+ghost use mathlib.Core.Path.{_≡_};
+ghost use Prim.Native.Nat.{_+_, _*_, _≤_};
+ghost use lib.ListN.{length};
+ghost use lib.Seq.{sets};
+ghost use lib.Count.{ones};
+ghost use Rattle.quorum.specs.Sets.{members};
+ghost use Rattle.message.specs.Message.{sizeOf, messageOf};
+ghost use Rattle.message.specs.Faults.{faultOf};
+ghost use Rattle.layout.specs.Layout.{bytesOf};
+ghost use Rattle.frame.specs.Reading.{readWith, readOf, numberOf, lengthOf};
+ghost use Rattle.frame.specs.Writing.{answerOf, writtenOf, afterWrite, partOf, framesIn, setWritten, afterSet};
+use base::DONE;
+use base::REFUSED_CELL;
+use base::REFUSED_CUT;
+use base::REFUSED_KIND;
+use base::REFUSED_LENGTH;
+use base::REFUSED_ROOM;
+use message::Message;
+use message::Numbers;
+
+// What reading finds: a message with its frame's length, or the number of the refusal.
+pub enum Reading {
+    Whole(Message, usize),
+    Refused(u8),
+}
+
+impl Reading {
+    pub fn number(self) -> u8
+        ensures { λ r. ⌜ r ≡ numberOf self ⌝ }
+    {
+        match self {
+            Reading::Whole(_, _) => DONE,
+            Reading::Refused(k) => k,
+        }
+    }
+
+    pub fn frame_length(self) -> usize
+        ensures { λ r. ⌜ r ≡ lengthOf self ⌝ }
+    {
+        match self {
+            Reading::Whole(_, len) => len,
+            Reading::Refused(_) => 0,
+        }
+    }
+}
+
+// The message that numbers are of, with its frame's length, unless something in it is refused.
+fn read_numbers(n: u8, f: Numbers, len: usize) -> Reading
+    ensures { λ r. ⌜ r ≡ readWith (faultOf n f) (messageOf f) len ⌝ }
+{
+    let bad = message::fault(n, f);
+    if bad == DONE {
+        Reading::Whole(message::message_of(f), len)
+    } else {
+        Reading::Refused(bad)
+    }
+}
+
+// The message whose frame s begins with, and the frame's length; bytes after it are not looked at.
+pub fn read(n: u8, s: &[u8]) -> Reading
+    ensures { λ r. ⌜ r ≡ readOf n (now (s .entry)) ⌝ }
+{
+    if !quorum::cell_fits(n) {
+        return Reading::Refused(REFUSED_CELL);
+    }
+    if s.len() < 4 {
+        return Reading::Refused(REFUSED_CUT);
+    }
+    let kind = wire::get(s, 2, 2) as u16;
+    let len = message::kind_of(kind).len;
+    if len == 0 {
+        return Reading::Refused(REFUSED_KIND);
+    }
+    let told = wire::get(s, 0, 2);
+    if told != len as u64 {
+        return Reading::Refused(REFUSED_LENGTH);
+    }
+    if s.len() < len {
+        return Reading::Refused(REFUSED_CUT);
+    }
+    read_numbers(n, layout::numbers_at(s, kind), len)
+}
+
+// The answer's number, and how many bytes were written.
+pub struct Written {
+    pub answer: u8,
+    pub len: usize,
+}
+
+// The answer of writing: 1, then what is refused in the message, then 8.
+fn answer_of(n: u8, bad: u8, total: usize, room: usize) -> u8
+    ensures { λ r. ⌜ r ≡ answerOf n bad total room ⌝ }
+{
+    if !quorum::cell_fits(n) {
+        return REFUSED_CELL;
+    }
+    if bad != DONE {
+        return bad;
+    }
+    if total <= room { DONE } else { REFUSED_ROOM }
+}
+
+// Writes the frame of a message at the start of out, or leaves out as it is.
+pub fn write(n: u8, m: Message, out: &mut [u8]) -> Written
+    ensures { λ r. ⌜ (r ≡ writtenOf n m (length (now (out .entry)))) × (now (out .exit) ≡ afterWrite n m (now (out .entry))) ⌝ }
+{
+    let f = message::numbers_of(m);
+    let len = message::kind_of(f.kind).len;
+    let bad = message::fault(n, f);
+    let answer = answer_of(n, bad, len, out.len());
+    if answer != DONE {
+        return Written { answer, len: 0 };
+    }
+    layout::put_numbers(out, 0, f, len);
+    Written { answer, len }
+}
+
+// Writes one frame at `at`, or none, and gives where the next one goes.
+fn put_if(out: &mut [u8], at: usize, f: Numbers, len: usize, on: bool) -> usize
+    requires { ⌜ (len ≡ sizeOf (f .kind)) × ((15 ≤ len) × (at + length (partOf on f) ≤ length (now out))) ⌝ }
+    ensures { λ r. ⌜ (r ≡ at + length (partOf on f)) × (now (out .exit) ≡ sets (now (out .entry)) at (partOf on f)) ⌝ }
+{
+    if on {
+        layout::put_numbers(out, at, f, len);
+        at + len
+    } else {
+        at
+    }
+}
+
+// Writes the frames to the hosts of a set end to end at the start of out.
+fn put_set(out: &mut [u8], f: Numbers, len: usize, n: u8, set: u16)
+    requires { ⌜ (n ≤ 9) × ((len ≡ sizeOf (f .kind)) × ((15 ≤ len) × (length (framesIn f (members n set)) ≤ length (now out)))) ⌝ }
+    ensures { λ _. ⌜ now (out .exit) ≡ sets (now (out .entry)) 0 (framesIn f (members n set)) ⌝ }
+{
+    let mut at: usize = 0;
+    let mut h: u8 = 0;
+    while h < n {
+        at = put_if(
+            out,
+            at,
+            message::with_target(f, h),
+            len,
+            quorum::has(set, h),
+        );
+        h = h + 1;
+    }
+}
+
+// How many bytes the frames to a set take.
+fn total_of(set: u16, len: usize) -> usize
+    requires { ⌜ len ≤ 33 ⌝ }
+    ensures { λ r. ⌜ r ≡ ones set * len ⌝ }
+{
+    quorum::count(set) as usize * len
+}
+
+// Writes the frames of a message to the hosts of a set end to end at the start of out, or leaves out as it is. The message's own
+// target is not looked at.
+pub fn write_to(n: u8, m: Message, set: u16, out: &mut [u8]) -> Written
+    ensures { λ r. ⌜ (r ≡ setWritten n m set (length (now (out .entry)))) × (now (out .exit) ≡ afterSet n m set (now (out .entry))) ⌝ }
+{
+    let f = message::numbers_of(m);
+    let len = message::kind_of(f.kind).len;
+    let total = total_of(set, len);
+    let bad = message::set_fault(n, f, set);
+    let answer = answer_of(n, bad, total, out.len());
+    if answer != DONE {
+        return Written { answer, len: 0 };
+    }
+    put_set(out, f, len, n, set);
+    Written { answer, len: total }
+}

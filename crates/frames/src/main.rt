@@ -1,0 +1,190 @@
+// Shows frames being read and written: document 01's P11 and P12, each kind once, each refusal once, and for each kind all 65,536
+// values of the length field, counted by answer. Its output is held to the file stdout.
+ghost use Prim.Native.Nat.{_≤_};
+
+mod sample;
+mod show;
+
+// P11: a prepare request, host 0 to 2, ballot (105,0); then one byte more.
+const P11: [u8; 16] = [15, 0, 1, 0, 0, 2, 105, 0, 0, 0, 0, 0, 0, 0, 0, 0];
+
+// P12: the same with a length of 16.
+const P12: [u8; 16] = [16, 0, 1, 0, 0, 2, 105, 0, 0, 0, 0, 0, 0, 0, 0, 0];
+
+// Every number but length and kind is 0.
+const ZERO: [u8; 24] = [
+    24,
+    0,
+    4,
+    0,
+    0,
+    0,
+    0,
+    0,
+    0,
+    0,
+    0,
+    0,
+    0,
+    0,
+    0,
+    0,
+    0,
+    0,
+    0,
+    0,
+    0,
+    0,
+    0,
+    0,
+];
+
+fn worked() {
+    show::reading(b"P11", frame::read(3, &P11));
+    show::reading(b"P12", frame::read(3, &P12));
+    show::reading(b"zero tick and end", frame::read(1, &ZERO));
+}
+
+// The frame of a kind's sample, and what is read from it.
+fn one_kind(kind: u16) {
+    let mut out = [0u8; 33];
+    let w = frame::write(3, sample::message_of_kind(kind), &mut out);
+    show::frame(&out, w.len);
+    show::reading(b"  reads", frame::read(3, &out));
+}
+
+fn kinds() {
+    one_kind(1);
+    one_kind(2);
+    one_kind(3);
+    one_kind(4);
+    one_kind(5);
+    one_kind(6);
+}
+
+fn read_sixteen(label: &[u8], bytes: &[u8; 16]) {
+    show::reading(label, frame::read(3, bytes));
+}
+
+// What is read once one byte of P11 is another.
+fn damaged(label: &[u8], at: usize, byte: u8) {
+    let mut bytes = P11;
+    if at < 16 {
+        bytes[at] = byte;
+    }
+    read_sixteen(label, &bytes);
+}
+
+fn refused_readings() {
+    show::reading(b"read 1 cell", frame::read(10, &P11));
+    show::reading(b"read 2 cut, under 4 bytes", frame::read(3, &[15, 0, 1]));
+    damaged(b"read 3 kind", 2, 7);
+    damaged(b"read 4 length", 0, 14);
+    show::reading(b"read 2 cut", frame::read(3, &[15, 0, 1, 0, 0, 2, 105]));
+    damaged(b"read 5 host", 5, 3);
+    damaged(b"read 6 tick", 13, 1);
+    damaged(b"read 7 party", 14, 1);
+}
+
+// What writing P11's message, with another sender and tick, into 15 bytes answers.
+fn written(label: &[u8], n: u8, sender: u8, tick: u64) {
+    let mut out = [0u8; 15];
+    let w = frame::write(n, sample::request(sender, tick), &mut out);
+    show::written(label, w.answer, w.len);
+}
+
+fn no_room() {
+    let mut out = [0u8; 14];
+    let w = frame::write(3, sample::request(0, 105), &mut out);
+    show::written(b"write 8 room", w.answer, w.len);
+}
+
+fn refused_writings() {
+    written(b"write 1 cell", 0, 0, 105);
+    written(b"write 5 host", 3, 3, 105);
+    written(b"write 6 tick", 3, 0, 281474976710657);
+    written(b"write 7 party", 3, 1, 105);
+    no_room();
+    written(b"write 0 done", 3, 0, 281474976710656);
+}
+
+// What writing a kind's sample to a set of receivers answers.
+fn to_set(label: &[u8], kind: u16, set: u16) {
+    let mut out = [0u8; 99];
+    let w = frame::write_to(3, sample::message_of_kind(kind), set, &mut out);
+    show::written(label, w.answer, w.len);
+}
+
+fn sets() {
+    to_set(b"set of all three", 6, 7);
+    to_set(b"set of none", 6, 0);
+    to_set(b"set 5 host", 6, 8);
+    to_set(b"set 7 party", 3, 2);
+    to_set(b"set of the ballot's host", 3, 1);
+}
+
+// What a frame is answered with another length field.
+fn answer_with(bytes: [u8; 33], length: u64) -> u8 {
+    let mut frame = bytes;
+    frame[0] = (length % 256) as u8;
+    frame[1] = (length / 256 % 256) as u8;
+    frame::read(3, &frame).number()
+}
+
+fn one_if(on: bool) -> u64
+    ensures { λ r. ⌜ r ≤ 1 ⌝ }
+{
+    if on { 1 } else { 0 }
+}
+
+// How many of the 65,536 values of a frame's length field are answered so.
+fn lengths(bytes: [u8; 33], answer: u8) -> u64 {
+    let mut count: u64 = 0;
+    let mut i: u64 = 0;
+    while i < 65536 {
+        count = count + one_if(answer_with(bytes, i) == answer);
+        i = i + 1;
+    }
+    count
+}
+
+// An answer and how often it came.
+fn lengths_answered(bytes: [u8; 33], answer: u8) {
+    show::count_of(answer, lengths(bytes, answer));
+}
+
+// The frame of a kind's sample, in 33 bytes.
+fn sample_frame(kind: u16) -> [u8; 33] {
+    let mut out = [0u8; 33];
+    frame::write(3, sample::message_of_kind(kind), &mut out);
+    out
+}
+
+fn lengths_of_kind(kind: u16) {
+    let bytes = sample_frame(kind);
+    show::lengths_head(kind);
+    let mut answer: u8 = 0;
+    while answer < 9 {
+        lengths_answered(bytes, answer);
+        answer = answer + 1;
+    }
+    show::line_end();
+}
+
+fn all_lengths() {
+    lengths_of_kind(1);
+    lengths_of_kind(2);
+    lengths_of_kind(3);
+    lengths_of_kind(4);
+    lengths_of_kind(5);
+    lengths_of_kind(6);
+}
+
+fn main() {
+    worked();
+    kinds();
+    refused_readings();
+    refused_writings();
+    sets();
+    all_lengths();
+}

@@ -1,0 +1,128 @@
+-- The layout of frames: document 01's fields, their widths and their order, and a frame's bytes as numbers and back. Assumes nothing.
+use Prim.Native.Nat.{ℕ}
+use mathlib.Core.Bool.{cond}
+use mathlib.Core.List.{List, [], _∷_, _++_, map}
+use lib.ListN.{getD}
+use lib.Dec.{eqb}
+use Rattle.wire.specs.Wire.{numberAt, numbersAt, packed}
+use Rattle.message.specs.declared.Ballot.{Ballot}
+use Rattle.message.specs.declared.Head.{Head}
+use Rattle.message.specs.declared.Lease.{Lease}
+use Rattle.message.specs.declared.Numbers.{Numbers}
+use Rattle.message.specs.Message.{sizeOf}
+use Rattle.message.specs.Faults.{Field, settings, lentBytes, frameLength, kindNumber, sender, target, ballotTick, ballotHost, acceptedTick, acceptedHost, owner, keepersEnd, holdersEnd}
+
+-- how many bytes a field takes
+abbrev pub widthOf : Field → ℕ
+widthOf settings = 0
+widthOf lentBytes = 0
+widthOf frameLength = 2
+widthOf kindNumber = 2
+widthOf sender = 1
+widthOf target = 1
+widthOf ballotTick = 8
+widthOf ballotHost = 1
+widthOf acceptedTick = 8
+widthOf acceptedHost = 1
+widthOf owner = 1
+widthOf keepersEnd = 8
+widthOf holdersEnd = 8
+
+-- the fields that every frame begins with
+abbrev pub common : List Field
+common = frameLength ∷ kindNumber ∷ sender ∷ target ∷ ballotTick ∷ ballotHost ∷ []
+
+-- those after them, by kind from 0 on
+abbrev pub mores : List (List Field)
+mores =
+    []
+    ∷ []
+    ∷ []
+    ∷ (acceptedTick ∷ acceptedHost ∷ owner ∷ keepersEnd ∷ [])
+    ∷ (owner ∷ keepersEnd ∷ [])
+    ∷ []
+    ∷ (owner ∷ holdersEnd ∷ [])
+    ∷ []
+
+unfoldable pub moreOf : ℕ → List Field
+moreOf k = getD mores k []
+
+abbrev pub fieldsOf : ℕ → List Field
+fieldsOf k = common ++ moreOf k
+
+abbrev pub widths : List Field → List ℕ
+widths fs = map widthOf fs
+
+-- ---- numbers as bytes
+
+-- what a message's numbers have in a field
+abbrev pub valueOf : Numbers → Field → ℕ
+valueOf f settings = 0
+valueOf f lentBytes = 0
+valueOf f frameLength = sizeOf (f .kind)
+valueOf f kindNumber = f .kind
+valueOf f sender = f .sender
+valueOf f target = f .target
+valueOf f ballotTick = f .ballot .tick
+valueOf f ballotHost = f .ballot .host
+valueOf f acceptedTick = f .accepted .tick
+valueOf f acceptedHost = f .accepted .host
+valueOf f owner = f .owner
+valueOf f keepersEnd = f .keepers .0
+valueOf f holdersEnd = f .holders .0
+
+-- the bytes of some of a message's fields
+abbrev pub bytesIn : Numbers → List Field → List ℕ
+bytesIn f fs = packed (widths fs) (map (valueOf f) fs)
+
+-- a frame
+unfoldable pub bytesOf : Numbers → List ℕ
+bytesOf f = bytesIn f (fieldsOf (f .kind))
+
+-- ---- bytes as numbers
+
+abbrev pub place : Field → ℕ
+place settings = 0
+place lentBytes = 1
+place frameLength = 2
+place kindNumber = 3
+place sender = 4
+place target = 5
+place ballotTick = 6
+place ballotHost = 7
+place acceptedTick = 8
+place acceptedHost = 9
+place owner = 10
+place keepersEnd = 11
+place holdersEnd = 12
+
+-- the value of a field where fields have these values; 0 where it is none of them
+unfoldable pub valueIn : List Field → List ℕ → Field → ℕ
+valueIn [] vs x = 0
+valueIn (f ∷ fs) [] x = 0
+valueIn (f ∷ fs) (v ∷ vs) x = cond (eqb (place f) (place x)) v (valueIn fs vs x)
+
+-- the numbers of a message of kind k whose fields have these values
+abbrev pub numbersFrom : ℕ → List Field → List ℕ → Numbers
+numbersFrom k fs vs = record {
+  kind = k;
+  sender = valueIn fs vs sender;
+  target = valueIn fs vs target;
+  ballot = record { tick = valueIn fs vs ballotTick; host = valueIn fs vs ballotHost };
+  accepted = record { tick = valueIn fs vs acceptedTick; host = valueIn fs vs acceptedHost };
+  owner = valueIn fs vs owner;
+  keepers = record { 0 = valueIn fs vs keepersEnd };
+  holders = record { 0 = valueIn fs vs holdersEnd };
+}
+
+-- the numbers in a frame of kind k at the start of s
+unfoldable pub numbersIn : List ℕ → ℕ → Numbers
+numbersIn s k = numbersFrom k (fieldsOf k) (numbersAt s 0 (widths (fieldsOf k)))
+
+-- ---- the groups that the code reads together
+
+abbrev pub headAt : List ℕ → Head
+headAt s = record { sender = numberAt s 4 1; target = numberAt s 5 1; ballot = record { tick = numberAt s 6 8; host = numberAt s 14 1 } }
+
+abbrev pub leaseAt : List ℕ → Lease
+leaseAt s = record { ballot = record { tick = numberAt s 15 8; host = numberAt s 23 1 }; owner = numberAt s 24 1; end = record { 0 = numberAt s 25 8 } }

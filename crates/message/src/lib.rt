@@ -1,0 +1,321 @@
+// Ballots, the two ends of a lease, the six messages, their kinds, and what is refused in a message: 5, 6 and 7.
+ghost use mathlib.Core.Path.{_≡_};
+ghost use Prim.Native.Nat.{_+_, _-_, _≤_};
+ghost use Rattle.base.specs.Refusals.{allHold, answer};
+ghost use Rattle.message.specs.Message.{lastEnd, isAbove, holdersOf, keepersOf, kindOf, numbers, numbersOf, headOf, messageOf, withTarget};
+ghost use Rattle.message.specs.Faults.{hostTests, tickTests, messageRefusals, partyFits, setParty, faultOf, setFault};
+use base::DONE;
+use base::REFUSED_HOST;
+use base::REFUSED_PARTY;
+use base::REFUSED_TICK;
+
+// The last tick of a clock, 2^48.
+pub const LAST_TICK: u64 = 281474976710656;
+
+// The last end of a lease, 2^48 + 2^31.
+pub const LAST_END: u64 = 281477124194304;
+
+pub struct Ballot {
+    pub tick: u64,
+    pub host: u8,
+}
+
+impl Ballot {
+    // Whether this ballot is above another: by tick, then by host.
+    pub fn above(self, other: Ballot) -> bool
+        ensures { λ r. ⌜ r ≡ isAbove self other ⌝ }
+    {
+        if self.tick == other.tick {
+            return other.host < self.host;
+        }
+        other.tick < self.tick
+    }
+}
+
+// The keepers' end of a lease: carried in proposals and held by acceptors.
+pub struct KeepersEnd(pub u64);
+
+// The holder's end of a lease: carried in learn messages and held by whoever names the holder.
+pub struct HoldersEnd(pub u64);
+
+impl KeepersEnd {
+    // The holder's end of the same lease, S earlier.
+    pub fn to_holders(self, spread: u32) -> HoldersEnd
+        requires { ⌜ spread ≤ self .0 ⌝ }
+        ensures { λ r. ⌜ r ≡ holdersOf self spread ⌝ }
+    {
+        HoldersEnd(self.0 - spread as u64)
+    }
+}
+
+impl HoldersEnd {
+    // The keepers' end of the same lease, S later.
+    pub fn to_keepers(self, spread: u32) -> KeepersEnd
+        requires { ⌜ self .0 ≤ lastEnd ⌝ }
+        ensures { λ r. ⌜ r ≡ keepersOf self spread ⌝ }
+    {
+        KeepersEnd(self.0 + spread as u64)
+    }
+}
+
+// A lease as acceptors hold it.
+pub struct Lease {
+    pub ballot: Ballot,
+    pub owner: u8,
+    pub end: KeepersEnd,
+}
+
+// What every message has.
+pub struct Head {
+    pub sender: u8,
+    pub target: u8,
+    pub ballot: Ballot,
+}
+
+pub struct LeaseReply {
+    pub head: Head,
+    pub accepted: Lease,
+}
+
+pub struct Proposal {
+    pub head: Head,
+    pub owner: u8,
+    pub end: KeepersEnd,
+}
+
+pub struct Naming {
+    pub head: Head,
+    pub owner: u8,
+    pub end: HoldersEnd,
+}
+
+pub enum Message {
+    PrepareRequest(Head),
+    PrepareEmpty(Head),
+    PrepareLease(LeaseReply),
+    ProposeRequest(Proposal),
+    ProposeResponse(Head),
+    Learn(Naming),
+}
+
+// A kind of message: its frame's length, and whether it is a reply. A reply's target is the ballot's host; of any other the sender is.
+pub struct Kind {
+    pub len: usize,
+    pub reply: bool,
+}
+
+// The kinds by number. There is no kind 0, and none is 0 long.
+pub const KINDS: [Kind; 7] = [
+    Kind {
+        len: 0,
+        reply: false,
+    },
+    Kind {
+        len: 15,
+        reply: false,
+    },
+    Kind {
+        len: 15,
+        reply: true,
+    },
+    Kind {
+        len: 33,
+        reply: true,
+    },
+    Kind {
+        len: 24,
+        reply: false,
+    },
+    Kind {
+        len: 15,
+        reply: true,
+    },
+    Kind {
+        len: 24,
+        reply: false,
+    },
+];
+
+pub fn kind_of(kind: u16) -> Kind
+    ensures { λ r. ⌜ r ≡ kindOf kind ⌝ }
+{
+    if kind < 7 {
+        KINDS[kind as usize]
+    } else {
+        KINDS[0]
+    }
+}
+
+// The numbers of a message of any kind; those that its kind lacks are 0.
+pub struct Numbers {
+    pub kind: u16,
+    pub sender: u8,
+    pub target: u8,
+    pub ballot: Ballot,
+    pub accepted: Ballot,
+    pub owner: u8,
+    pub keepers: KeepersEnd,
+    pub holders: HoldersEnd,
+}
+
+pub fn numbers_with(
+    kind: u16,
+    head: Head,
+    accepted: Ballot,
+    owner: u8,
+    keepers: KeepersEnd,
+    holders: HoldersEnd,
+) -> Numbers
+    ensures { λ r. ⌜ r ≡ numbers kind head accepted owner keepers holders ⌝ }
+{
+    let ballot = head.ballot;
+    Numbers {
+        kind,
+        sender: head.sender,
+        target: head.target,
+        ballot,
+        accepted,
+        owner,
+        keepers,
+        holders,
+    }
+}
+
+// The numbers of a message.
+pub fn numbers_of(m: Message) -> Numbers
+    ensures { λ r. ⌜ r ≡ numbersOf m ⌝ }
+{
+    let none = Ballot { tick: 0, host: 0 };
+    let no_keepers = KeepersEnd(0);
+    let no_holders = HoldersEnd(0);
+    match m {
+        Message::PrepareRequest(h) => numbers_with(1, h, none, 0, no_keepers, no_holders),
+        Message::PrepareEmpty(h) => numbers_with(2, h, none, 0, no_keepers, no_holders),
+        Message::PrepareLease(r) => {
+            let l = r.accepted;
+            numbers_with(3, r.head, l.ballot, l.owner, l.end, no_holders)
+        }
+        Message::ProposeRequest(p) => numbers_with(4, p.head, none, p.owner, p.end, no_holders),
+        Message::ProposeResponse(h) => numbers_with(5, h, none, 0, no_keepers, no_holders),
+        Message::Learn(l) => numbers_with(6, l.head, none, l.owner, no_keepers, l.end),
+    }
+}
+
+pub fn head_of(f: Numbers) -> Head
+    ensures { λ r. ⌜ r ≡ headOf f ⌝ }
+{
+    let ballot = f.ballot;
+    Head {
+        sender: f.sender,
+        target: f.target,
+        ballot,
+    }
+}
+
+// The message that numbers of a kind are of; those that the kind lacks are not looked at.
+pub fn message_of(f: Numbers) -> Message
+    ensures { λ r. ⌜ r ≡ messageOf f ⌝ }
+{
+    let head = head_of(f);
+    let ballot = f.accepted;
+    let owner = f.owner;
+    let keepers = f.keepers;
+    let holders = f.holders;
+    let kind = f.kind;
+    match kind {
+        1 => Message::PrepareRequest(head),
+        2 => Message::PrepareEmpty(head),
+        3 => Message::PrepareLease(LeaseReply {
+            head,
+            accepted: Lease {
+                ballot,
+                owner,
+                end: keepers,
+            },
+        }),
+        4 => Message::ProposeRequest(Proposal {
+            head,
+            owner,
+            end: keepers,
+        }),
+        5 => Message::ProposeResponse(head),
+        _ => Message::Learn(Naming {
+            head,
+            owner,
+            end: holders,
+        }),
+    }
+}
+
+// The numbers of the same message to another target.
+pub fn with_target(f: Numbers, target: u8) -> Numbers
+    ensures { λ r. ⌜ r ≡ withTarget f target ⌝ }
+{
+    let mut g = f;
+    g.target = target;
+    g
+}
+
+pub fn hosts_fit(n: u8, f: Numbers, target_fits: bool) -> bool
+    ensures { λ r. ⌜ r ≡ allHold (hostTests n f «target_fits») ⌝ }
+{
+    (f.sender < n) & (target_fits & ((f.ballot.host < n) & ((f.accepted.host < n) & (f.owner < n))))
+}
+
+pub fn ticks_fit(f: Numbers) -> bool
+    ensures { λ r. ⌜ r ≡ allHold (tickTests f) ⌝ }
+{
+    (f.ballot.tick <= LAST_TICK)
+        & ((f.accepted.tick <= LAST_TICK) & ((f.keepers.0 <= LAST_END) & (f.holders.0 <= LAST_END)))
+}
+
+// The number of the first refusal that a message's numbers meet, or 0, given what was found of its target and of its party.
+pub fn fault_with(n: u8, f: Numbers, target_fits: bool, party_fits: bool) -> u8
+    ensures { λ r. ⌜ r ≡ answer (messageRefusals n f «target_fits» «party_fits») ⌝ }
+{
+    if hosts_fit(n, f, target_fits) {
+        if ticks_fit(f) {
+            if party_fits { DONE } else { REFUSED_PARTY }
+        } else {
+            REFUSED_TICK
+        }
+    } else {
+        REFUSED_HOST
+    }
+}
+
+// Whether the sender, or a reply's target, is the ballot's host.
+pub fn party_of(f: Numbers) -> bool
+    ensures { λ r. ⌜ r ≡ partyFits f ⌝ }
+{
+    if kind_of(f.kind).reply {
+        f.target == f.ballot.host
+    } else {
+        f.sender == f.ballot.host
+    }
+}
+
+// What is refused in a message to its own target.
+pub fn fault(n: u8, f: Numbers) -> u8
+    ensures { λ r. ⌜ r ≡ faultOf n f ⌝ }
+{
+    fault_with(n, f, f.target < n, party_of(f))
+}
+
+// Whether the sender is the ballot's host, or a reply's receivers are no host but that.
+pub fn set_party(f: Numbers, set: u16) -> bool
+    ensures { λ r. ⌜ r ≡ setParty f set ⌝ }
+{
+    if kind_of(f.kind).reply {
+        quorum::is_only(set, f.ballot.host)
+    } else {
+        f.sender == f.ballot.host
+    }
+}
+
+// What is refused in a message to a set of receivers; its own target is not looked at.
+pub fn set_fault(n: u8, f: Numbers, set: u16) -> u8
+    ensures { λ r. ⌜ r ≡ setFault n f set ⌝ }
+{
+    fault_with(n, f, quorum::is_below(set, n), set_party(f, set))
+}

@@ -1,0 +1,115 @@
+-- Laws of sets of hosts: membership, the set of one host, and the list of a set's hosts. Assumes nothing.
+use mathlib.Core.Path.{_≡_, refl, sym, ap, _∙_}
+use mathlib.Core.Bool.{Bool, true, false, cond, _||_}
+use mathlib.Core.List.{List, [], _∷_}
+use Prim.Native.Nat.{ℕ, zero, suc, _+_, _-_, _*_, _/_, _%_, _^_, _≤_, _<_}
+use native.Mathlib.Nat.{one-mul, mod-lt, div-self, div-eq-of-lt, div-one, mul-mod-left, zero-div, zero-mod}
+use native.Mathlib.Decide.{decLt, ℕ-discrete}
+use native.Mathlib.Omega.{arith}
+use lib.Count.{ones, onesIn, ones-step}
+use lib.Dec.{lit<, eqb}
+use lib.ListN.{length}
+use lib.Pow.{shl-exact, shl-shr, shr-shr, pow-pos, pow-lt, pow-add}
+use borrow.Author.Tests.{eqb-true, eq-eqb, ne-eqb}
+use Rattle.base.specs.Lists.{All}
+use Rattle.base.proofs.Tests.{true-false}
+use Rattle.quorum.specs.Sets.{bit, isIn, single, isOnly, membersFrom, members}
+
+-- a bit of a `u16` by a shift
+pub shifted : (i : ℕ) → i < 16 → (1 * 2 ^ i) % 2 ^ 16 ≡ 2 ^ i
+shifted i h = shl-exact {a = 1} 1 i 16 (lit< tt) (omega arith) ∙ one-mul (2 ^ i)
+
+pub bit-le : (s i : ℕ) → bit s i < 2
+bit-le s i = mod-lt (s / 2 ^ i) (lit< tt)
+
+-- ---- the set of one host
+
+pub single-same : (i : ℕ) → bit (single i) i ≡ 1
+single-same i = ap (λ (x : ℕ). x % 2) (div-self (pow-pos i))
+
+pub single-other : (h i : ℕ) → (h ≡ i → ⊥) → bit (single h) i ≡ 0
+single-other h i e = go (decLt h i)
+  where
+    go : Dec (h < i) → bit (2 ^ h) i ≡ 0
+    go (yes p) = ap (λ (x : ℕ). x % 2) (div-eq-of-lt (pow-lt p))
+    go (no q) =
+        let j : ℕ = h - i - 1 in
+        let eh : h ≡ (j + 1) + i = omega arith in
+        ap (λ (m : ℕ). 2 ^ m / 2 ^ i % 2) eh
+        ∙ ap (λ (x : ℕ). x / 2 ^ i % 2) (pow-add 2 (j + 1) i)
+        ∙ ap (λ (x : ℕ). x % 2) (shl-shr (2 ^ (j + 1)) i)
+        ∙ ap (λ (x : ℕ). x % 2) (pow-add 2 j 1)
+        ∙ mul-mod-left (2 ^ j) 2
+
+-- who is in a set that names no host but one is that one
+pub only-one : (set h i : ℕ) → isOnly set h ≡ true → isIn set i ≡ true → i ≡ h
+only-one set h i o m = go (eqb set 0) (eqb set (single h)) refl refl o (ℕ-discrete h i)
+  where
+    one : bit set i ≡ 1
+    one = eqb-true (bit set i) 1 m
+
+    go : (a b : Bool) → eqb set 0 ≡ a → eqb set (single h) ≡ b → (a || b) ≡ true → Dec (h ≡ i) → i ≡ h
+    go a b p q o (yes e) = sym e
+    go true b p q o (no e) =
+        let z : bit set i ≡ 0 = ap (λ (s : ℕ). bit s i) (eqb-true set 0 p) ∙ ap (λ (x : ℕ). x % 2) (zero-div (2 ^ i)) in
+        absurd (omega (arith, one))
+    go false true p q o (no e) =
+        let z : bit set i ≡ 0 = ap (λ (s : ℕ). bit s i) (eqb-true set (single h) q) ∙ single-other h i e in
+        absurd (omega (arith, one))
+    go false false p q o (no e) = true-false (sym o)
+
+-- ---- the list of a set's hosts
+
+pub members-step : (set h n : ℕ) → h < n → membersFrom set h (n - h) ≡ cond (isIn set h) (h ∷ membersFrom set (h + 1) (n - (h + 1))) (membersFrom set (h + 1) (n - (h + 1)))
+unfolding membersFrom
+members-step set h n k =
+    let e : n - h ≡ suc (n - (h + 1)) = omega arith in
+    let g : h + 1 ≡ suc h = omega arith in
+    rw (e, g)
+
+pub members-end : (set h n : ℕ) → n ≤ h → membersFrom set h (n - h) ≡ []
+unfolding membersFrom
+members-end set h n k = let e : n - h ≡ 0 = omega arith in rw e
+
+-- each is a host below n that is in the set
+pub record Member (n set h : ℕ) : Type 0 where
+  pub below : h < n
+  pub within : isIn set h ≡ true
+
+members-from : (n set h k : ℕ) → h + k ≤ n → All (Member n set) (membersFrom set h k)
+unfolding membersFrom All
+members-from n set h zero e = tt
+members-from n set h (suc k) e = go (isIn set h) refl (members-from n set (suc h) k (omega arith))
+  where
+    go : (b : Bool) → isIn set h ≡ b → All (Member n set) (membersFrom set (suc h) k) → All (Member n set) (cond b (h ∷ membersFrom set (suc h) k) (membersFrom set (suc h) k))
+    go true p rest = (record { below = omega arith; within = p }, rest)
+    go false p rest = rest
+
+pub members-all : (n set : ℕ) → All (Member n set) (members n set)
+members-all n set = members-from n set 0 n (omega arith)
+
+ones-zero : ones 0 ≡ 0
+unfolding ones onesIn
+ones-zero = refl
+
+-- a set has as many hosts as ones
+members-ones : (set h k : ℕ) → set / 2 ^ h < 2 ^ k → length (membersFrom set h k) ≡ ones (set / 2 ^ h)
+unfolding membersFrom
+members-ones set h zero e =
+    let z : set / 2 ^ h ≡ 0 = omega arith in
+    sym (ap ones z ∙ ones-zero)
+members-ones set h (suc k) e =
+    let x = set / 2 ^ h in
+    let half : x / 2 ≡ set / 2 ^ suc h = shr-shr set h 1 ∙ ap (λ (j : ℕ). set / 2 ^ j) (omega arith) in
+    let rest : length (membersFrom set (suc h) k) ≡ ones (x / 2) = members-ones set (suc h) k (rw (← half) (omega arith)) ∙ ap ones (sym half) in
+    go (x % 2) refl (mod-lt x (lit< tt)) (length (membersFrom set (suc h) k)) rest (membersFrom set (suc h) k) refl
+  where
+    go : (b : ℕ) → set / 2 ^ h % 2 ≡ b → b < 2 → (r : ℕ) → r ≡ ones (set / 2 ^ h / 2) → (l : List ℕ) → length l ≡ r → length (cond (eqb (set / 2 ^ h % 2) 1) (h ∷ l) l) ≡ ones (set / 2 ^ h)
+    go zero p b r q l i = rw p (i ∙ q ∙ omega (arith, ones-step (set / 2 ^ h)))
+    go (suc zero) p b r q l i = rw p (omega (arith, ones-step (set / 2 ^ h)))
+    go (suc (suc j)) p b r q l i = absurd (omega arith)
+
+pub members-length : (n set : ℕ) → set < 2 ^ n → length (members n set) ≡ ones set
+members-length n set e =
+    let d : set / 2 ^ 0 ≡ set = div-one set in
+    members-ones set 0 n (rw d e) ∙ ap ones d

@@ -1,0 +1,42 @@
+-- A cell's hosts are numbered from 0; a set of hosts is a number with one bit a host. Assumes nothing.
+use Prim.Native.Nat.{ℕ, zero, suc, _/_, _%_, _^_}
+use mathlib.Core.Bool.{Bool, cond, _&&_, _||_}
+use mathlib.Core.List.{List, [], _∷_}
+use lib.Dec.{ltb, leb, eqb}
+use lib.Count.{ones}
+
+-- a cell has 1 to 9 hosts
+abbrev pub cellFits : ℕ → Bool
+cellFits n = leb 1 n && leb n 9
+
+-- the bit of a host: 1 where it is in the set
+abbrev pub bit : ℕ → ℕ → ℕ
+bit set h = set / 2 ^ h % 2
+
+abbrev pub isIn : ℕ → ℕ → Bool
+isIn set h = eqb (bit set h) 1
+
+-- the set of one host
+abbrev pub single : ℕ → ℕ
+single h = 2 ^ h
+
+-- no host of n or more is in the set
+abbrev pub isBelow : ℕ → ℕ → Bool
+isBelow set n = ltb set (2 ^ n)
+
+-- no host but h is in the set
+abbrev pub isOnly : ℕ → ℕ → Bool
+isOnly set h = eqb set 0 || eqb set (single h)
+
+-- the number of ones
+abbrev pub size : ℕ → ℕ
+size set = ones set
+
+-- those of the k hosts from h on that are in the set, rising
+unfoldable pub membersFrom : ℕ → ℕ → ℕ → List ℕ
+membersFrom set h zero = []
+membersFrom set h (suc k) = cond (isIn set h) (h ∷ membersFrom set (suc h) k) (membersFrom set (suc h) k)
+
+-- the hosts of a set, of n, rising
+abbrev pub members : ℕ → ℕ → List ℕ
+members n set = membersFrom set 0 n
