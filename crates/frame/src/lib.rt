@@ -129,21 +129,17 @@ fn put_if(out: &mut [u8], at: usize, f: Numbers, len: usize, on: bool) -> usize
     }
 }
 
-// Writes the frames to the hosts of a set end to end at the start of out.
-fn put_set(out: &mut [u8], f: Numbers, len: usize, n: u8, set: u16)
-    requires { ⌜ (n ≤ 9) × ((len ≡ sizeOf (f .kind)) × ((15 ≤ len) × (length (framesIn f (members n set)) ≤ length (now out)))) ⌝ }
-    ensures { λ _. ⌜ now (out .exit) ≡ sets (now (out .entry)) 0 (framesIn f (members n set)) ⌝ }
+// Writes the frames to the hosts of a set end to end at the start of out. The set is halved until no host is left.
+fn put_set(out: &mut [u8], f: Numbers, len: usize, set: u16)
+    requires { ⌜ (len ≡ sizeOf (f .kind)) × ((15 ≤ len) × (length (framesIn f (members 16 set)) ≤ length (now out))) ⌝ }
+    ensures { λ _. ⌜ now (out .exit) ≡ sets (now (out .entry)) 0 (framesIn f (members 16 set)) ⌝ }
 {
+    let mut rest = set;
     let mut at: usize = 0;
     let mut h: u8 = 0;
-    while h < n {
-        at = put_if(
-            out,
-            at,
-            message::with_target(f, h),
-            len,
-            quorum::has(set, h),
-        );
+    while rest != 0 {
+        at = put_if(out, at, message::with_target(f, h), len, rest % 2 == 1);
+        rest = rest / 2;
         h = h + 1;
     }
 }
@@ -169,6 +165,6 @@ pub fn write_to(n: u8, m: Message, set: u16, out: &mut [u8]) -> Written
     if answer != DONE {
         return Written { answer, len: 0 };
     }
-    put_set(out, f, len, n, set);
+    put_set(out, f, len, set);
     Written { answer, len: total }
 }

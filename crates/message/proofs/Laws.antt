@@ -13,7 +13,7 @@ use Rattle.quorum.proofs.Laws.{Member, only-one}
 use Rattle.message.specs.declared.Numbers.{Numbers}
 use Rattle.message.specs.declared.Message.{Message}
 use Rattle.message.specs.declared.Message.the-variants.{PrepareRequest, PrepareEmpty, PrepareLease, ProposeRequest, ProposeResponse, Learn}
-use Rattle.message.specs.Message.{lastTick, lastEnd, kindOf, sizeOf, numbersOf, messageOf, withTarget, messageTo}
+use Rattle.message.specs.Message.{lastTick, lastEnd, kindRow, kindOf, sizeOf, numbersOf, messageOf, withTarget, messageTo}
 use Rattle.message.specs.Faults.{Field, hostTests, tickTests, messageRefusals, partyField, partyFits, faultOf, setParty, setFault}
 
 -- ---- messages as numbers
@@ -49,6 +49,21 @@ by-kind P a b c d e f g h (suc (suc (suc (suc zero)))) = e
 by-kind P a b c d e f g h (suc (suc (suc (suc (suc zero))))) = f
 by-kind P a b c d e f g h (suc (suc (suc (suc (suc (suc zero)))))) = g
 by-kind P a b c d e f g h (suc (suc (suc (suc (suc (suc (suc k))))))) = h k
+
+-- and of no other number
+pub no-kind : (k : ℕ) → (k ≡ 1 → ⊥) → (k ≡ 2 → ⊥) → (k ≡ 3 → ⊥) → (k ≡ 4 → ⊥) → (k ≡ 5 → ⊥) → (k ≡ 6 → ⊥) → kindOf k ≡ kindRow 0 false
+unfolding kindOf
+no-kind =
+    by-kind
+    (λ (k : ℕ). (k ≡ 1 → ⊥) → (k ≡ 2 → ⊥) → (k ≡ 3 → ⊥) → (k ≡ 4 → ⊥) → (k ≡ 5 → ⊥) → (k ≡ 6 → ⊥) → kindOf k ≡ kindRow 0 false)
+    (λ a b c d e f. refl)
+    (λ a b c d e f. absurd (a refl))
+    (λ a b c d e f. absurd (b refl))
+    (λ a b c d e f. absurd (c refl))
+    (λ a b c d e f. absurd (d refl))
+    (λ a b c d e f. absurd (e refl))
+    (λ a b c d e f. absurd (f refl))
+    (λ k a b c d e f. refl)
 
 -- a frame has at least the fields that every frame has
 pub size-least : (k : ℕ) → (sizeOf k ≡ 0 → ⊥) → 15 ≤ sizeOf k

@@ -2,7 +2,7 @@
 ghost use mathlib.Core.Path.{_≡_};
 ghost use Prim.Native.Nat.{_+_, _-_, _≤_};
 ghost use Rattle.base.specs.Refusals.{allHold, answer};
-ghost use Rattle.message.specs.Message.{lastEnd, isAbove, holdersOf, keepersOf, kindOf, numbers, numbersOf, headOf, messageOf, withTarget};
+ghost use Rattle.message.specs.Message.{lastEnd, isAbove, holdersOf, keepersOf, kindRow, kindOf, numbers, numbersOf, headOf, messageOf, withTarget};
 ghost use Rattle.message.specs.Faults.{hostTests, tickTests, messageRefusals, partyFits, setParty, faultOf, setFault};
 use base::DONE;
 use base::REFUSED_HOST;
@@ -104,45 +104,24 @@ pub struct Kind {
     pub reply: bool,
 }
 
-// The kinds by number. There is no kind 0, and none is 0 long.
-pub const KINDS: [Kind; 7] = [
-    Kind {
-        len: 0,
-        reply: false,
-    },
-    Kind {
-        len: 15,
-        reply: false,
-    },
-    Kind {
-        len: 15,
-        reply: true,
-    },
-    Kind {
-        len: 33,
-        reply: true,
-    },
-    Kind {
-        len: 24,
-        reply: false,
-    },
-    Kind {
-        len: 15,
-        reply: true,
-    },
-    Kind {
-        len: 24,
-        reply: false,
-    },
-];
+fn kind_row(len: usize, reply: bool) -> Kind
+    ensures { λ r. ⌜ r ≡ kindRow len reply ⌝ }
+{
+    Kind { len, reply }
+}
 
+// The kinds by number. None is 0 long, so a length of 0 says that there is no such kind.
 pub fn kind_of(kind: u16) -> Kind
     ensures { λ r. ⌜ r ≡ kindOf kind ⌝ }
 {
-    if kind < 7 {
-        KINDS[kind as usize]
-    } else {
-        KINDS[0]
+    match kind {
+        1 => kind_row(15, false),
+        2 => kind_row(15, true),
+        3 => kind_row(33, true),
+        4 => kind_row(24, false),
+        5 => kind_row(15, true),
+        6 => kind_row(24, false),
+        _ => kind_row(0, false),
     }
 }
 

@@ -9,7 +9,7 @@ use native.Mathlib.Omega.{arith}
 use lib.Count.{ones, onesIn, ones-step}
 use lib.Dec.{lit<, eqb}
 use lib.ListN.{length}
-use lib.Pow.{shl-exact, shl-shr, shr-shr, pow-pos, pow-lt, pow-add}
+use lib.Pow.{shl-exact, shl-shr, shr-shr, pow-pos, pow-mono, pow-lt, pow-add}
 use borrow.Author.Tests.{eqb-true, eq-eqb, ne-eqb}
 use Rattle.base.specs.Lists.{All}
 use Rattle.base.proofs.Tests.{true-false}
@@ -113,3 +113,46 @@ pub members-length : (n set : ℕ) → set < 2 ^ n → length (members n set) �
 members-length n set e =
     let d : set / 2 ^ 0 ≡ set = div-one set in
     members-ones set 0 n (rw d e) ∙ ap ones d
+
+-- ---- a walk that halves the set until nothing is left
+
+-- what is left after one host more
+pub half-set : (set h : ℕ) → set / 2 ^ h / 2 ≡ set / 2 ^ (h + 1)
+half-set set h = shr-shr set h 1
+
+-- while something is left, the walk is below n
+pub walk-below : (set h n : ℕ) → set < 2 ^ n → (set / 2 ^ h ≡ 0 → ⊥) → h < n
+walk-below set h n b e = go (decLt h n)
+  where
+    go : Dec (h < n) → h < n
+    go (yes p) = p
+    go (no q) =
+        let m : 2 ^ n ≤ 2 ^ h = pow-mono {i = n} {j = h} (omega arith) in
+        absurd (e (div-eq-of-lt {n = set} {m = 2 ^ h} (omega arith)))
+
+-- once nothing is left, no host is
+pub members-none : (set h k : ℕ) → set / 2 ^ h ≡ 0 → membersFrom set h k ≡ []
+unfolding membersFrom
+members-none set h zero e = refl
+members-none set h (suc k) e =
+    let s : h + 1 ≡ suc h = omega arith in
+    let z : set / 2 ^ suc h ≡ 0 = rw s at (sym (half-set set h) ∙ ap (λ (x : ℕ). x / 2) e) in
+    rw (e, members-none set (suc h) k z)
+
+-- hosts beyond a set's reach add nothing
+members-more : (set h n k : ℕ) → set / 2 ^ (h + n) ≡ 0 → membersFrom set h (n + k) ≡ membersFrom set h n
+unfolding membersFrom
+members-more set h zero k e =
+    let a : h + 0 ≡ h = omega arith in
+    let b : 0 + k ≡ k = omega arith in
+    rw b (members-none set h k (rw a at e))
+members-more set h (suc n) k e =
+    let a : h + suc n ≡ suc h + n = omega arith in
+    let b : suc n + k ≡ suc (n + k) = omega arith in
+    rw (b, members-more set (suc h) n k (rw a at e))
+
+pub members-below : (set n m : ℕ) → set < 2 ^ n → n ≤ m → members m set ≡ members n set
+members-below set n m b l =
+    let e : n + (m - n) ≡ m = omega arith in
+    let z : 0 + n ≡ n = omega arith in
+    rw e at (members-more set 0 n (m - n) (rw z (div-eq-of-lt b)))

@@ -1,21 +1,13 @@
 // How many hosts a cell may have, and sets of them: a u16 with one bit a host.
 ghost use mathlib.Core.Path.{_≡_};
 ghost use Prim.Native.Nat.{_<_, _^_};
-ghost use Rattle.quorum.specs.Sets.{cellFits, isIn, single, isBelow, isOnly, size};
+ghost use Rattle.quorum.specs.Sets.{cellFits, single, isBelow, isOnly, size};
 
 // Whether a cell may have n hosts.
 pub fn cell_fits(n: u8) -> bool
     ensures { λ r. ⌜ r ≡ cellFits n ⌝ }
 {
     (1 <= n) & (n <= 9)
-}
-
-// Whether a host is in a set.
-pub fn has(set: u16, host: u8) -> bool
-    requires { ⌜ host < 16 ⌝ }
-    ensures { λ r. ⌜ r ≡ isIn set host ⌝ }
-{
-    (set >> host) % 2 == 1
 }
 
 // The set of one host.

@@ -1,12 +1,13 @@
 use mathlib.Core.Path.{_≡_, refl, sym, ap, _∙_}
-use Prim.Native.Nat.{_+_, _-_, _≤_}
+use Prim.Native.Nat.{ℕ, _+_, _-_, _/_, _^_, _≤_, _<_}
+use native.Mathlib.Nat.{div-one}
 use native.Mathlib.Omega.{arith}
 use borrow.Author.Needs.{needs}
 use lib.ListN.{length, length-append}
 use lib.Seq.{sets}
 use Rattle.base.proofs.Stores.{sets-append}
 use Rattle.quorum.specs.Sets.{isIn, membersFrom, members}
-use Rattle.quorum.proofs.Laws.{members-end}
+use Rattle.quorum.proofs.Laws.{half-set, walk-below, members-none}
 use Rattle.message.specs.Message.{withTarget}
 use Rattle.frame.specs.Writing.{framesIn, partOf}
 use Rattle.frame.proofs.Answers.{frames-step}
@@ -14,65 +15,66 @@ use Rattle.frame.proofs.put_set.Statement.{statement}
 use Rattle.frame.proofs.put_set.Tie as tie
 
 abbrev Inv-loop : tie.InvT-loop
-Inv-loop out₀ f len n set at₀ h₀ out at h =
-    (h ≤ n) × ((length out ≡ length out₀) × ((at + length (framesIn f (membersFrom set h (n - h))) ≤ length out₀)
-    × (sets out at (framesIn f (membersFrom set h (n - h))) ≡ sets out₀ 0 (framesIn f (members n set)))))
+Inv-loop out₀ f len set rest₀ at₀ h₀ out rest at h =
+    (rest ≡ set / 2 ^ h) × ((length out ≡ length out₀) × ((at + length (framesIn f (membersFrom set h (16 - h))) ≤ length out₀)
+    × (sets out at (framesIn f (membersFrom set h (16 - h))) ≡ sets out₀ 0 (framesIn f (members 16 set)))))
 
 abbrev μ-loop : tie.MeasureT-loop
-μ-loop out₀ f len n set at₀ h₀ out at h = n - h
+μ-loop out₀ f len set rest₀ at₀ h₀ out rest at h = rest
+
+-- while a host is left, the walk is below 16
+below : (c : tie.In-loop Inv-loop μ-loop) → c .before .loop .h < 16
+below c =
+    let a = c .before .before .before .args in
+    let l = c .before .loop in
+    walk-below (a .set) (l .h) 16 (search needs) (λ e. c .loop-test .taken (l .inv .0 ∙ e))
 
 -- what is left is this host's part and the rest
 parts : (c : tie.In-loop Inv-loop μ-loop) →
     let a = c .before .before .before .args in
     let l = c .before .loop in
-    length (framesIn (a .f) (membersFrom (a .set) (l .h) (a .n - l .h)))
-    ≡ length (partOf (isIn (a .set) (l .h)) (withTarget (a .f) (l .h))) + length (framesIn (a .f) (membersFrom (a .set) (l .h + 1) (a .n - (l .h + 1))))
+    length (framesIn (a .f) (membersFrom (a .set) (l .h) (16 - l .h)))
+    ≡ length (partOf (isIn (a .set) (l .h)) (withTarget (a .f) (l .h))) + length (framesIn (a .f) (membersFrom (a .set) (l .h + 1) (16 - (l .h + 1))))
 parts c =
     let a = c .before .before .before .args in
     let l = c .before .loop in
     let one = partOf (isIn (a .set) (l .h)) (withTarget (a .f) (l .h)) in
-    ap length (frames-step (a .f) (a .set) (l .h) (a .n) (c .loop-test .taken)) ∙ length-append one (framesIn (a .f) (membersFrom (a .set) (l .h + 1) (a .n - (l .h + 1))))
+    ap length (frames-step (a .f) (a .set) (l .h) 16 (below c)) ∙ length-append one (framesIn (a .f) (membersFrom (a .set) (l .h + 1) (16 - (l .h + 1))))
 
 loop-holds : tie.Need-loop-holds Inv-loop μ-loop
-loop-holds c =
-    let a = c .before .args in
-    let e : a .n - 0 ≡ a .n = omega arith in
-    (omega arith, (refl, (rw e (omega arith), rw e)))
+loop-holds c = (sym (div-one (c .before .args .set)), (refl, (omega arith, refl)))
 
 with-target-requires : tie.Need-with-target-requires Inv-loop μ-loop
 with-target-requires c κs = search needs
 
-has-requires : tie.Need-has-requires Inv-loop μ-loop
-has-requires c κs = search needs
-
 put-if-requires : tie.Need-put-if-requires Inv-loop μ-loop
 put-if-requires c κs =
-    let p = c .before .before .before .before .before .before .pre in
-    let w = c .before .with-target .ensures in
-    (rw w (p .1 .0), (p .1 .1 .0, rw (w, c .has .ensures) (omega (arith, parts (c .before .before .before)))))
+    let p = c .before .before .before .before .before .pre in
+    let w = c .with-target .ensures in
+    (rw w (p .0), (p .1 .0, rw (w, c .before .before .before .loop .inv .0) (omega (arith, parts (c .before .before)))))
 
 add-h : tie.Need-add-h Inv-loop μ-loop
-add-h c = search needs
+add-h c = omega (arith, below (c .before .before .before .before .before))
 
 loop-less : tie.Need-loop-less Inv-loop μ-loop
-loop-less c = search needs
+loop-less c = omega (arith, c .before .before .before .before .before .loop-test .taken)
 
 loop-again : tie.Need-loop-again Inv-loop μ-loop
 loop-again c =
-    let a = c .before .before .before .before .before .before .before .before .before .args in
-    let l = c .before .before .before .before .before .before .before .loop in
+    let a = c .before .before .before .before .before .before .before .before .args in
+    let l = c .before .before .before .before .before .before .loop in
     let p = c .before .before .put-if in
-    let w = c .before .before .before .before .with-target .ensures in
-    let m = c .before .before .before .has .ensures in
+    let w = c .before .before .before .with-target .ensures in
+    let m = l .inv .0 in
     let one = partOf (isIn (a .set) (l .h)) (withTarget (a .f) (l .h)) in
-    let more = framesIn (a .f) (membersFrom (a .set) (l .h + 1) (a .n - (l .h + 1))) in
+    let more = framesIn (a .f) (membersFrom (a .set) (l .h + 1) (16 - (l .h + 1))) in
     let at : p .result ≡ l .at + length one = rw (w, m) at (p .ensures .0) in (
-      omega arith,
+      rw m (half-set (a .set) (l .h)),
       (
         p .kept .0 ∙ l .inv .1 .0,
         (
-          omega (arith, parts (c .before .before .before .before .before .before)),
-          rw (p .ensures .1, at, w, m) (sets-append (l .out) (l .at) one more ∙ ap (sets (l .out) (l .at)) (sym (frames-step (a .f) (a .set) (l .h) (a .n) (c .before .before .before .before .before .before .loop-test .taken))) ∙ l .inv .1 .1 .1),
+          omega (arith, parts (c .before .before .before .before .before)),
+          rw (p .ensures .1, at, w, m) (sets-append (l .out) (l .at) one more ∙ ap (sets (l .out) (l .at)) (sym (frames-step (a .f) (a .set) (l .h) 16 (below (c .before .before .before .before .before)))) ∙ l .inv .1 .1 .1),
         ),
       ),
     )
@@ -85,7 +87,8 @@ unfolding framesIn
 returns c =
     let a = c .before .before .before .args in
     let l = c .before .loop in
-    rw (members-end (a .set) (l .h) (a .n) (omega arith)) at (l .inv .1 .1 .1)
+    let z = sym (l .inv .0) ∙ c .loop-test .left in
+    rw (members-none (a .set) (l .h) (16 - l .h) z) at (l .inv .1 .1 .1)
 
 pub put-set-spec : {M : Type 1} → statement M
 put-set-spec =
@@ -95,7 +98,6 @@ put-set-spec =
     μ-loop
     loop-holds
     with-target-requires
-    has-requires
     put-if-requires
     add-h
     loop-less

@@ -1,3 +1,9 @@
+use Prim.Native.Nat.{_<_, _^_}
+use lib.Dec.{lit≤}
+use borrow.Author.Tests.{ltb-true}
+use Rattle.quorum.specs.Sets.{members}
+use Rattle.quorum.proofs.Laws.{members-below}
+use Rattle.message.proofs.Laws.{set-passed}
 use mathlib.Core.Path.{_≡_, sym, _∙_}
 use Prim.Native.Nat.{_≤_}
 use native.Mathlib.Omega.{arith}
@@ -31,6 +37,14 @@ long c =
     rw (c .before .before .before .total-of .ensures, c .before .before .before .before .kind-of .ensures, c .before .before .before .before .before .numbers-of .ensures)
     (set-length (a .n) (a .m) (a .set) (rw (c .before .before .before .before .before .numbers-of .ensures) at e))
 
+-- the set's hosts below 16 are those below n
+hosts : (c : tie.Else1) → members 16 (c .before .before .before .before .before .before .before .args .set) ≡ members (c .before .before .before .before .before .before .before .args .n) (c .before .before .before .before .before .before .before .args .set)
+hosts c =
+    let a = c .before .before .before .before .before .before .before .args in
+    let e = told (c .before .before .set-fault .ensures) (free c .message) in
+    let b : a .set < 2 ^ a .n = ltb-true (a .set) (2 ^ a .n) (set-passed (a .n) (c .before .before .before .before .before .numbers-of .result) (a .set) e .target) in
+    members-below (a .set) (a .n) 16 b (omega (arith, cell-most (a .n) (free c .cell)))
+
 numbers-of-requires : tie.Need-numbers-of-requires
 numbers-of-requires c κs = search needs
 
@@ -58,7 +72,7 @@ unfolding framesOf
 put-set-requires c κs =
     let k = free (c .before) in
     let z = long (c .before) in
-    (cell-most (c .before .before .before .before .before .before .before .before .args .n) (k .cell), (rw (c .before .before .before .before .before .kind-of .ensures), (rw (c .before .before .before .before .before .kind-of .ensures, c .before .before .before .before .before .before .numbers-of .ensures) (kind-known (c .before .before .before .before .before .before .before .before .args .m)), rw (c .before .before .before .before .before .before .numbers-of .ensures) (omega (arith, z, k .fits)))))
+    (rw (c .before .before .before .before .before .kind-of .ensures), (rw (c .before .before .before .before .before .kind-of .ensures, c .before .before .before .before .before .before .numbers-of .ensures) (kind-known (c .before .before .before .before .before .before .before .before .args .m)), rw (hosts (c .before), c .before .before .before .before .before .before .numbers-of .ensures) (omega (arith, z, k .fits))))
 
 same-length : tie.Need-same-length
 same-length c = search needs
@@ -70,7 +84,7 @@ returns-2 c =
     let d = found (c .before .before .before .before .before) ∙ c .before .before .before .before .if1 .left in
     let z = long (c .before .before .before .before) in
     let k : length (framesOf (a .n) (a .m) (a .set)) ≤ length (a .out .now) = omega (arith, z, free (c .before .before .before .before) .fits) in
-    (rw (d, c .before .before .before .before .if1 .left, z), rw d (rw (c .before .before .put-set .ensures, c .before .before .before .before .before .before .before .before .before .numbers-of .ensures) (sets-front (framesOf (a .n) (a .m) (a .set)) (a .out .now) k)))
+    (rw (d, c .before .before .before .before .if1 .left, z), rw d (rw (c .before .before .put-set .ensures, hosts (c .before .before .before .before), c .before .before .before .before .before .before .before .before .before .numbers-of .ensures) (sets-front (framesOf (a .n) (a .m) (a .set)) (a .out .now) k)))
 
 pub write-to-spec : {M : Type 1} → statement M
 write-to-spec =

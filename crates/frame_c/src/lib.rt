@@ -1,0 +1,204 @@
+// Frames for hosts written in C: numbers and byte slices. include/lease_frame.h declares these functions.
+ghost use mathlib.Core.Path.{_≡_};
+ghost use lib.ListN.{length};
+ghost use Rattle.frame.specs.Reading.{readOf, numberOf, lengthOf};
+ghost use Rattle.base.specs.Refusals.{answer};
+ghost use Rattle.frame_c.specs.Interface.{Wrote, kindRefusals, endOf, numbersAfter, handed, handedWritten, afterHanded, handedSetWritten, afterHandedSet};
+use base::DONE;
+use base::REFUSED_CELL;
+use base::REFUSED_KIND;
+use frame::Reading;
+use frame::Written;
+use message::Ballot;
+use message::HoldersEnd;
+use message::KeepersEnd;
+use message::Numbers;
+
+fn end_of(f: Numbers) -> u64
+    ensures { λ r. ⌜ r ≡ endOf f ⌝ }
+{
+    if f.kind == 6 {
+        f.holders.0
+    } else {
+        f.keepers.0
+    }
+}
+
+// Reads the frame that bytes begins with into the nine numbers: kind, sender, target, ballot tick, ballot host, accepted tick,
+// accepted host, owner and end, and its length. Those that the kind lacks are 0. A refusal leaves the numbers, and a length of 0.
+#[no_mangle]
+pub extern "C" fn lease_frame_read(
+    n: u8,
+    bytes: &[u8],
+    numbers: &mut [u64; 9],
+    len: &mut usize,
+) -> u8
+    ensures { λ r. ⌜ (r ≡ numberOf (readOf n (now (bytes .entry))))
+        × ((now (numbers .exit) ≡ numbersAfter (readOf n (now (bytes .entry))) (now (numbers .entry)))
+        × (now (len .exit) ≡ lengthOf (readOf n (now (bytes .entry))))) ⌝ }
+{
+    match frame::read(n, bytes) {
+        Reading::Whole(m, z) => {
+            let f = message::numbers_of(m);
+            *numbers = [
+                f.kind as u64,
+                f.sender as u64,
+                f.target as u64,
+                f.ballot.tick,
+                f.ballot.host as u64,
+                f.accepted.tick,
+                f.accepted.host as u64,
+                f.owner as u64,
+                end_of(f),
+            ];
+            *len = z;
+            DONE
+        }
+        Reading::Refused(k) => {
+            *len = 0;
+            k
+        }
+    }
+}
+
+fn handed_numbers(
+    kind: u16,
+    sender: u8,
+    target: u8,
+    tick: u64,
+    host: u8,
+    accepted_tick: u64,
+    accepted_host: u8,
+    owner: u8,
+    end: u64,
+) -> Numbers
+    ensures { λ r. ⌜ r ≡ handed kind sender target tick host «accepted_tick» «accepted_host» owner end ⌝ }
+{
+    Numbers {
+        kind,
+        sender,
+        target,
+        ballot: Ballot { tick, host },
+        accepted: Ballot {
+            tick: accepted_tick,
+            host: accepted_host,
+        },
+        owner,
+        keepers: KeepersEnd(end),
+        holders: HoldersEnd(end),
+    }
+}
+
+// 1, 3 for a kind that is none, or 0.
+fn kind_answer(n: u8, kind: u16) -> u8
+    ensures { λ r. ⌜ r ≡ answer (kindRefusals n kind) ⌝ }
+{
+    if !quorum::cell_fits(n) {
+        return REFUSED_CELL;
+    }
+    if message::kind_of(kind).len == 0 {
+        return REFUSED_KIND;
+    }
+    DONE
+}
+
+// Writes the frame of numbers of a kind; those that the kind lacks are not looked at.
+fn write_handed(n: u8, f: Numbers, out: &mut [u8]) -> Written
+    ensures { λ r. ⌜ (r ≡ handedWritten n f (length (now (out .entry)))) × (now (out .exit) ≡ afterHanded n f (now (out .entry))) ⌝ }
+{
+    let bad = kind_answer(n, f.kind);
+    if bad != DONE {
+        return Written {
+            answer: bad,
+            len: 0,
+        };
+    }
+    frame::write(n, message::message_of(f), out)
+}
+
+// Writes the frames of numbers of a kind to a set of receivers; those that the kind lacks, and the target, are not looked at.
+fn write_handed_to(n: u8, f: Numbers, set: u16, out: &mut [u8]) -> Written
+    ensures { λ r. ⌜ (r ≡ handedSetWritten n f set (length (now (out .entry)))) × (now (out .exit) ≡ afterHandedSet n f set (now (out .entry))) ⌝ }
+{
+    let bad = kind_answer(n, f.kind);
+    if bad != DONE {
+        return Written {
+            answer: bad,
+            len: 0,
+        };
+    }
+    frame::write_to(n, message::message_of(f), set, out)
+}
+
+// Writes the frame of a message at the start of out, and its length to len: 0 where it is refused.
+#[no_mangle]
+pub extern "C" fn lease_frame_write(
+    n: u8,
+    kind: u16,
+    sender: u8,
+    target: u8,
+    tick: u64,
+    host: u8,
+    accepted_tick: u64,
+    accepted_host: u8,
+    owner: u8,
+    end: u64,
+    out: &mut [u8],
+    len: &mut usize,
+) -> u8
+    ensures { λ r. ⌜ Wrote (handedWritten n (handed kind sender target tick host «accepted_tick» «accepted_host» owner end) (length (now (out .entry))))
+        (afterHanded n (handed kind sender target tick host «accepted_tick» «accepted_host» owner end) (now (out .entry)))
+        r (now (len .exit)) (now (out .exit)) ⌝ }
+{
+    let f = handed_numbers(
+        kind,
+        sender,
+        target,
+        tick,
+        host,
+        accepted_tick,
+        accepted_host,
+        owner,
+        end,
+    );
+    let w = write_handed(n, f, out);
+    *len = w.len;
+    w.answer
+}
+
+// Writes the frames of a message to the hosts of a set end to end at the start of out, and their length to len: 0 where they are
+// refused.
+#[no_mangle]
+pub extern "C" fn lease_frame_write_to(
+    n: u8,
+    kind: u16,
+    sender: u8,
+    tick: u64,
+    host: u8,
+    accepted_tick: u64,
+    accepted_host: u8,
+    owner: u8,
+    end: u64,
+    receivers: u16,
+    out: &mut [u8],
+    len: &mut usize,
+) -> u8
+    ensures { λ r. ⌜ Wrote (handedSetWritten n (handed kind sender 0 tick host «accepted_tick» «accepted_host» owner end) receivers (length (now (out .entry))))
+        (afterHandedSet n (handed kind sender 0 tick host «accepted_tick» «accepted_host» owner end) receivers (now (out .entry)))
+        r (now (len .exit)) (now (out .exit)) ⌝ }
+{
+    let f = handed_numbers(
+        kind,
+        sender,
+        0,
+        tick,
+        host,
+        accepted_tick,
+        accepted_host,
+        owner,
+        end,
+    );
+    let w = write_handed_to(n, f, receivers, out);
+    *len = w.len;
+    w.answer
+}

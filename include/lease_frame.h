@@ -1,0 +1,117 @@
+/*
+ * Reading and writing the frames that the hosts of a lease cell send each
+ * other, for host programs written in C.
+ *
+ * Link with libframe_c.a, which is for x86-64 Linux. No function allocates,
+ * blocks, or keeps a pointer after it returns.
+ *
+ * `length` and `numbers` must not be NULL. A byte slice may be NULL if its
+ * length is 0. No two arguments may overlap in memory.
+ */
+#ifndef LEASE_FRAME_H
+#define LEASE_FRAME_H
+
+#include <stddef.h>
+#include <stdint.h>
+
+#ifdef __cplusplus
+extern "C" {
+#endif
+
+/* What a call answers: done, or why it is refused. */
+enum lease_frame_answer {
+    LEASE_FRAME_DONE = 0,
+    LEASE_FRAME_CELL = 1,   /* n is not 1 to 9 */
+    LEASE_FRAME_CUT = 2,    /* under 4 bytes, or fewer than the frame's length */
+    LEASE_FRAME_KIND = 3,   /* not one of the six kinds */
+    LEASE_FRAME_LENGTH = 4, /* the length field is not that kind's */
+    LEASE_FRAME_HOST = 5,   /* a host number of n or more */
+    LEASE_FRAME_TICK = 6,   /* a tick or an end above its limit */
+    LEASE_FRAME_PARTY = 7,  /* sender or target is not the ballot's host */
+    LEASE_FRAME_ROOM = 8    /* lent bytes too few for what is written */
+};
+
+/*
+ * The kinds of message. In a prepare request, a propose request and a learn
+ * message the sender must be the ballot's host; in the responses the target
+ * must be.
+ */
+enum lease_frame_kind {
+    LEASE_FRAME_PREPARE_REQUEST = 1,
+    LEASE_FRAME_PREPARE_RESPONSE_EMPTY = 2,
+    LEASE_FRAME_PREPARE_RESPONSE_LEASE = 3,
+    LEASE_FRAME_PROPOSE_REQUEST = 4,
+    LEASE_FRAME_PROPOSE_RESPONSE = 5,
+    LEASE_FRAME_LEARN = 6
+};
+
+/* The places of a message's numbers, as reading gives them. */
+enum lease_frame_place {
+    LEASE_FRAME_AT_KIND,
+    LEASE_FRAME_AT_SENDER,
+    LEASE_FRAME_AT_TARGET,
+    LEASE_FRAME_AT_BALLOT_TICK,
+    LEASE_FRAME_AT_BALLOT_HOST,
+    LEASE_FRAME_AT_ACCEPTED_TICK, /* kind 3 */
+    LEASE_FRAME_AT_ACCEPTED_HOST, /* kind 3 */
+    LEASE_FRAME_AT_OWNER,         /* kinds 3, 4 and 6 */
+    LEASE_FRAME_AT_END,           /* kinds 3 and 4: keepers' end; 6: holder's end */
+    LEASE_FRAME_NUMBERS           /* how many there are */
+};
+
+/* The most hosts in a cell, and the most bytes of a frame and of a set of frames. */
+enum lease_frame_size {
+    LEASE_FRAME_HOSTS = 9,
+    LEASE_FRAME_LONGEST = 33,
+    LEASE_FRAME_LONGEST_SET = LEASE_FRAME_HOSTS * LEASE_FRAME_LONGEST
+};
+
+/* Limits: a tick is at most 2^48, an end at most 2^48 + 2^31. */
+#define LEASE_FRAME_LAST_TICK (UINT64_C(1) << 48)
+#define LEASE_FRAME_LAST_END (LEASE_FRAME_LAST_TICK + (UINT64_C(1) << 31))
+
+/*
+ * Reads the frame at the start of `bytes`, in a cell of n hosts. Bytes after
+ * the frame are not looked at.
+ *
+ * Done: `numbers` holds the message, with 0 for those its kind lacks, and
+ * *length is the frame's length. Refused: *length is 0 and `numbers` is as it
+ * was. Refusals are checked in the order 1, 2 (under 4 bytes), 3, 4, 2, 5, 6, 7.
+ */
+uint8_t lease_frame_read(uint8_t n, const uint8_t *bytes, size_t bytes_len,
+        uint64_t numbers[LEASE_FRAME_NUMBERS], size_t *length);
+
+/*
+ * Writes a message as a frame to the start of `out`. Numbers that the kind
+ * lacks are not looked at.
+ *
+ * Done: *length is the number of bytes written; the rest of `out` is as it
+ * was. Refused: *length is 0 and `out` is as it was. Refusals are checked in
+ * the order 1, 3, 5, 6, 7, 8.
+ */
+uint8_t lease_frame_write(uint8_t n, uint16_t kind, uint8_t sender, uint8_t target,
+        uint64_t ballot_tick, uint8_t ballot_host,
+        uint64_t accepted_tick, uint8_t accepted_host,
+        uint8_t owner, uint64_t end,
+        uint8_t *out, size_t out_len, size_t *length);
+
+/*
+ * Writes a message once for each host in `receivers`, where bit h stands for
+ * host h: frames end to end, receivers rising. Done and refused are as in
+ * lease_frame_write; all frames are written or none.
+ *
+ * A set that names a host of n or more is refused by 5; a response to a set
+ * that names any but the ballot's host, by 7. An empty set is checked like any
+ * other, and then writes nothing.
+ */
+uint8_t lease_frame_write_to(uint8_t n, uint16_t kind, uint8_t sender,
+        uint64_t ballot_tick, uint8_t ballot_host,
+        uint64_t accepted_tick, uint8_t accepted_host,
+        uint8_t owner, uint64_t end,
+        uint16_t receivers, uint8_t *out, size_t out_len, size_t *length);
+
+#ifdef __cplusplus
+}
+#endif
+
+#endif

@@ -1,0 +1,505 @@
+/*
+ * The edges of reading and writing frames: every limit from both sides, every
+ * cut, every length, kind, set and room, the order of refusals, and that no
+ * byte outside what was lent is touched.
+ *
+ * With the argument `small` it tries fewer values of each, for a run under
+ * valgrind.
+ */
+#define _DEFAULT_SOURCE
+#include <signal.h>
+#include <stdarg.h>
+#include <stdio.h>
+#include <stdlib.h>
+#include <string.h>
+#include <sys/mman.h>
+#include <unistd.h>
+
+#include "second.h"
+
+enum {
+    N = LEASE_FRAME_HOSTS,
+    FIELD_VALUES = 65536,   /* of the length, of the kind and of a set */
+    SET_HOSTS = 16,
+    GUARD = 64,
+    ROOM = LEASE_FRAME_LONGEST_SET + 1,
+    AFTER = 2,              /* bytes that follow a frame */
+    FILL = 0xA5
+};
+
+/* The lengths of all frames are below 64, and 64 + 3 * 149 is the set of nine hosts. */
+enum { ALWAYS = 64, SMALL_STRIDE = 149 };
+
+static unsigned stride = 1;
+
+/* The next value of a field to try: the low ones all, then each `stride`th. */
+static unsigned next(unsigned value)
+{
+    return value < ALWAYS ? value + 1 : value + stride;
+}
+
+static const int host_places[] = {LEASE_FRAME_AT_SENDER, LEASE_FRAME_AT_TARGET,
+        LEASE_FRAME_AT_BALLOT_HOST, LEASE_FRAME_AT_ACCEPTED_HOST, LEASE_FRAME_AT_OWNER};
+static const int tick_places[] = {LEASE_FRAME_AT_BALLOT_TICK, LEASE_FRAME_AT_ACCEPTED_TICK,
+        LEASE_FRAME_AT_END};
+enum { HOST_PLACES = 5, TICK_PLACES = 3 };
+
+__attribute__((noreturn, format(printf, 1, 2)))
+static void fail(const char *format, ...)
+{
+    va_list arguments;
+    va_start(arguments, format);
+    fputs("edges: ", stderr);
+    vfprintf(stderr, format, arguments);
+    fputc('\n', stderr);
+    exit(1);
+}
+
+/* Says why the run ends when the page after the lent bytes is touched. */
+static void touched(int signal_number)
+{
+    static const char text[] = "edges: a byte past those lent was touched\n";
+    (void)signal_number;
+    _exit(write(STDERR_FILENO, text, sizeof text - 1) < 0 ? 2 : 1);
+}
+
+/* The end of a page after which nothing can be read or written. */
+static uint8_t *page_end(void)
+{
+    static uint8_t *end;
+    if (end == NULL) {
+        size_t page = (size_t)sysconf(_SC_PAGESIZE);
+        uint8_t *pages = mmap(NULL, 2 * page, PROT_READ | PROT_WRITE,
+                MAP_PRIVATE | MAP_ANONYMOUS, -1, 0);
+        if (pages == MAP_FAILED || mprotect(pages + page, page, PROT_NONE) != 0)
+            fail("no guarded page");
+        end = pages + page;
+    }
+    return end;
+}
+
+static void compare_result(const char *what, const uint64_t *numbers, uint8_t answer,
+        uint8_t expected_answer, size_t length, size_t expected_length)
+{
+    if (answer != expected_answer || length != expected_length)
+        fail("%s, kind %llu: answer %u, length %zu; expected %u, %zu", what,
+                (unsigned long long)numbers[LEASE_FRAME_AT_KIND],
+                answer, length, expected_answer, expected_length);
+}
+
+/* Reads bytes laid at the end of the page; `numbers` is the message if any is given. */
+static void expect_read(const char *what, uint8_t n, const uint8_t *bytes, size_t count,
+        const uint64_t *numbers, uint8_t expected_answer)
+{
+    bool done = expected_answer == LEASE_FRAME_DONE;
+    uint8_t *lent = page_end() - count;
+    uint64_t given[LEASE_FRAME_NUMBERS], expected[LEASE_FRAME_NUMBERS];
+    size_t length = SIZE_MAX;
+    memcpy(lent, bytes, count);
+    memset(given, FILL, sizeof given);
+    memcpy(expected, done ? numbers : given, sizeof expected);
+
+    uint8_t answer = lease_frame_read(n, lent, count, given, &length);
+    compare_result(what, numbers, answer, expected_answer,
+            length, done ? second_length(numbers[LEASE_FRAME_AT_KIND]) : 0);
+    for (int place = 0; place < LEASE_FRAME_NUMBERS; place++) {
+        if (given[place] != expected[place])
+            fail("%s, kind %llu: number %d is %llu, expected %llu", what,
+                    (unsigned long long)numbers[LEASE_FRAME_AT_KIND], place,
+                    (unsigned long long)given[place], (unsigned long long)expected[place]);
+    }
+    if (memcmp(lent, bytes, count) != 0)
+        fail("%s: reading changed the bytes", what);
+}
+
+static size_t lay_each(const uint64_t *numbers, uint16_t receivers, uint8_t *out)
+{
+    uint64_t message[LEASE_FRAME_NUMBERS];
+    size_t length = 0;
+    memcpy(message, numbers, sizeof message);
+    for (int host = 0; host < SET_HOSTS; host++) {
+        if (receivers >> host & 1) {
+            message[LEASE_FRAME_AT_TARGET] = host;
+            length += second_lay(message, out + length);
+        }
+    }
+    return length;
+}
+
+/* Writes between guard bytes: to the target, or to a set if `receivers` is not NULL. */
+static void expect_write(const char *what, uint8_t n, const uint64_t *numbers,
+        const uint16_t *receivers, size_t room, uint8_t expected_answer)
+{
+    uint8_t given[GUARD + ROOM + GUARD], expected[sizeof given];
+    size_t length = SIZE_MAX, expected_length = 0;
+    memset(given, FILL, sizeof given);
+    memset(expected, FILL, sizeof expected);
+    if (expected_answer == LEASE_FRAME_DONE)
+        expected_length = receivers == NULL ? second_lay(numbers, expected + GUARD)
+                : lay_each(numbers, *receivers, expected + GUARD);
+
+    uint8_t answer = receivers == NULL
+            ? write_message(lease_frame_write, n, numbers, given + GUARD, room, &length)
+            : write_message_to(lease_frame_write_to, n, numbers, *receivers,
+                    given + GUARD, room, &length);
+    compare_result(what, numbers, answer, expected_answer, length, expected_length);
+    for (size_t i = 0; i < sizeof given; i++) {
+        if (given[i] != expected[i])
+            fail("%s, kind %llu, room %zu: byte %d is %u, expected %u", what,
+                    (unsigned long long)numbers[LEASE_FRAME_AT_KIND], room,
+                    (int)i - GUARD, given[i], expected[i]);
+    }
+}
+
+/* Writes to the target, and to the set of the target alone. */
+static void expect_writes(const char *what, uint8_t n, const uint64_t *numbers,
+        size_t room, uint8_t answer)
+{
+    expect_write(what, n, numbers, NULL, room, answer);
+    if (numbers[LEASE_FRAME_AT_TARGET] < SET_HOSTS) {
+        uint16_t receivers = (uint16_t)(1u << numbers[LEASE_FRAME_AT_TARGET]);
+        expect_write(what, n, numbers, &receivers, room, answer);
+    }
+}
+
+/* Reading, writing and writing to a set answer alike, given all bytes and room. */
+static void expect_all(const char *what, uint8_t n, const uint64_t *numbers, uint8_t answer)
+{
+    uint8_t frame[LEASE_FRAME_LONGEST];
+    size_t length = second_lay(numbers, frame);
+    expect_read(what, n, frame, length, numbers, answer);
+    expect_writes(what, n, numbers, length, answer);
+}
+
+/* The sample's message in a cell of n hosts. */
+static void sample_for(const struct sample *sample, uint8_t n, uint64_t *numbers)
+{
+    memcpy(numbers, sample->numbers, sizeof sample->numbers);
+    for (int i = 0; i < HOST_PLACES; i++)
+        numbers[host_places[i]] %= n;
+}
+
+/* The place that must hold the ballot's host. */
+static int party_place(const struct sample *sample)
+{
+    return is_response(sample->numbers[LEASE_FRAME_AT_KIND])
+            ? LEASE_FRAME_AT_TARGET : LEASE_FRAME_AT_SENDER;
+}
+
+static void layouts(const struct sample *sample)
+{
+    uint8_t frame[LEASE_FRAME_LONGEST];
+    size_t length = second_lay(sample->numbers, frame);
+    if (length != sample->length || memcmp(frame, sample->bytes, length) != 0)
+        fail("the sample of kind %llu is laid out otherwise",
+                (unsigned long long)sample->numbers[LEASE_FRAME_AT_KIND]);
+    expect_all("sample", N, sample->numbers, LEASE_FRAME_DONE);
+}
+
+/* Every length field on the first bytes of a frame. */
+static void length_fields(const struct sample *sample, const uint8_t *frame, size_t count)
+{
+    uint8_t bytes[LEASE_FRAME_LONGEST + AFTER];
+    uint8_t right = count < sample->length ? LEASE_FRAME_CUT : LEASE_FRAME_DONE;
+    uint8_t wrong = count < 4 ? LEASE_FRAME_CUT : LEASE_FRAME_LENGTH;
+    memcpy(bytes, frame, sizeof bytes);
+    for (unsigned field = 0; field < FIELD_VALUES; field = next(field)) {
+        bytes[0] = (uint8_t)field;
+        bytes[1] = (uint8_t)(field >> 8);
+        expect_read("length field", N, bytes, count, sample->numbers,
+                field == sample->length ? right : wrong);
+    }
+}
+
+/* Every cut of the frame, the whole, and the frame with bytes after it. */
+static void cuts(const struct sample *sample)
+{
+    uint8_t bytes[LEASE_FRAME_LONGEST + AFTER];
+    memset(bytes, FILL, sizeof bytes);
+    memcpy(bytes, sample->bytes, sample->length);
+    for (size_t count = 0; count <= sample->length + AFTER; count++)
+        length_fields(sample, bytes, count);
+}
+
+/* Every kind that is none of the six, at the length of a frame and of its head. */
+static void kinds(const struct sample *sample)
+{
+    uint64_t numbers[LEASE_FRAME_NUMBERS];
+    uint8_t frame[LEASE_FRAME_LONGEST];
+    memcpy(numbers, sample->numbers, sizeof numbers);
+    memcpy(frame, sample->bytes, sizeof frame);
+    for (unsigned kind = 0; kind < FIELD_VALUES; kind = next(kind)) {
+        if (1 <= kind && kind <= KINDS)
+            continue;
+        numbers[LEASE_FRAME_AT_KIND] = kind;
+        frame[2] = (uint8_t)kind;
+        frame[3] = (uint8_t)(kind >> 8);
+        expect_read("kind", N, frame, sample->length, numbers, LEASE_FRAME_KIND);
+        expect_read("kind", N, frame, 4, numbers, LEASE_FRAME_KIND);
+        expect_writes("kind", N, numbers, ROOM, LEASE_FRAME_KIND);
+    }
+}
+
+/* NULL for no bytes and for no room. */
+static void no_bytes(const struct sample *sample)
+{
+    const uint64_t *numbers = sample->numbers;
+    uint64_t given[LEASE_FRAME_NUMBERS];
+    uint16_t target = (uint16_t)(1u << numbers[LEASE_FRAME_AT_TARGET]);
+    size_t length = SIZE_MAX;
+    uint8_t answer = lease_frame_read(N, NULL, 0, given, &length);
+    compare_result("reading NULL", numbers, answer, LEASE_FRAME_CUT, length, 0);
+    length = SIZE_MAX;
+    answer = write_message(lease_frame_write, N, numbers, NULL, 0, &length);
+    compare_result("writing to NULL", numbers, answer, LEASE_FRAME_ROOM, length, 0);
+    length = SIZE_MAX;
+    answer = write_message_to(lease_frame_write_to, N, numbers, target, NULL, 0, &length);
+    compare_result("writing a set to NULL", numbers, answer, LEASE_FRAME_ROOM, length, 0);
+    length = SIZE_MAX;
+    answer = write_message_to(lease_frame_write_to, N, numbers, 0, NULL, 0, &length);
+    compare_result("writing no frame to NULL", numbers, answer, LEASE_FRAME_DONE, length, 0);
+}
+
+/* P11 and P12 of the moments worth fixing. */
+static void moments(void)
+{
+    static const uint8_t p11[] = {0x0F, 0, 1, 0, 0, 2, 0x69, 0, 0, 0, 0, 0, 0, 0, 0};
+    static const uint8_t p12[] = {0x10, 0, 1, 0, 0, 2, 0x69, 0, 0, 0, 0, 0, 0, 0, 0, 0};
+    static const uint64_t prepare[LEASE_FRAME_NUMBERS] = {1, 0, 2, 105, 0};
+    expect_read("P11", 3, p11, sizeof p11, prepare, LEASE_FRAME_DONE);
+    expect_all("P11", 3, prepare, LEASE_FRAME_DONE);
+    expect_read("P12", 3, p12, sizeof p12, prepare, LEASE_FRAME_LENGTH);
+}
+
+static void ticks(const struct sample *sample, int place)
+{
+    uint64_t last = place == LEASE_FRAME_AT_END ? LEASE_FRAME_LAST_END : LEASE_FRAME_LAST_TICK;
+    uint64_t numbers[LEASE_FRAME_NUMBERS];
+    memcpy(numbers, sample->numbers, sizeof numbers);
+    numbers[place] = 0;
+    expect_all("zero tick or end", N, numbers, LEASE_FRAME_DONE);
+    numbers[place] = last;
+    expect_all("last tick or end", N, numbers, LEASE_FRAME_DONE);
+    numbers[place] = last + 1;
+    expect_all("tick or end past its limit", N, numbers, LEASE_FRAME_TICK);
+    numbers[place] = UINT64_MAX;
+    expect_all("greatest tick or end", N, numbers, LEASE_FRAME_TICK);
+    numbers[place] = UINT64_C(1) << 63;
+    expect_all("top bit of a tick or end", N, numbers, LEASE_FRAME_TICK);
+}
+
+/* Every host number at one place, the ballot's host kept together with its party. */
+static void hosts(const struct sample *sample, int place, uint8_t n)
+{
+    bool in_party = place == LEASE_FRAME_AT_BALLOT_HOST || place == party_place(sample);
+    uint64_t numbers[LEASE_FRAME_NUMBERS];
+    sample_for(sample, n, numbers);
+    for (unsigned host = 0; host <= UINT8_MAX; host++) {
+        numbers[place] = host;
+        if (in_party && host < n)
+            numbers[LEASE_FRAME_AT_BALLOT_HOST] = numbers[party_place(sample)] = host;
+        expect_all("host", n, numbers, host < n ? LEASE_FRAME_DONE : LEASE_FRAME_HOST);
+    }
+}
+
+static void cells(const struct sample *sample)
+{
+    uint64_t numbers[LEASE_FRAME_NUMBERS];
+    for (unsigned n = 0; n <= UINT8_MAX; n++) {
+        bool in_range = 1 <= n && n <= LEASE_FRAME_HOSTS;
+        sample_for(sample, in_range ? (uint8_t)n : 1, numbers);
+        expect_all("cell", (uint8_t)n, numbers, in_range ? LEASE_FRAME_DONE : LEASE_FRAME_CELL);
+    }
+}
+
+static void parties(const struct sample *sample)
+{
+    uint64_t numbers[LEASE_FRAME_NUMBERS];
+    memcpy(numbers, sample->numbers, sizeof numbers);
+    for (int i = 0; i < N * N; i++) {
+        numbers[LEASE_FRAME_AT_SENDER] = i / N;
+        numbers[LEASE_FRAME_AT_TARGET] = i % N;
+        bool holds = numbers[party_place(sample)] == numbers[LEASE_FRAME_AT_BALLOT_HOST];
+        expect_all("party", N, numbers, holds ? LEASE_FRAME_DONE : LEASE_FRAME_PARTY);
+    }
+}
+
+/* Numbers that the kind lacks are past every limit, and are not looked at. */
+static void lacking_numbers(const struct sample *sample)
+{
+    static const uint64_t past[LEASE_FRAME_NUMBERS] = {[LEASE_FRAME_AT_ACCEPTED_TICK] = UINT64_MAX,
+            UINT8_MAX, UINT8_MAX, UINT64_MAX};
+    uint64_t numbers[LEASE_FRAME_NUMBERS];
+    memcpy(numbers, sample->numbers, sizeof numbers);
+    for (int place = 0; place < LEASE_FRAME_NUMBERS; place++) {
+        if (!second_carries(numbers[LEASE_FRAME_AT_KIND], place))
+            numbers[place] = past[place];
+    }
+    expect_writes("numbers that the kind lacks", N, numbers, sample->length, LEASE_FRAME_DONE);
+}
+
+/* Faults of a message, as bits. */
+enum { HOST_FAULT = 1, TICK_FAULT = 2, PARTY_FAULT = 4 };
+
+static void damage(uint64_t *numbers, int host_place, int tick_place, unsigned faults)
+{
+    if (faults & PARTY_FAULT)
+        numbers[LEASE_FRAME_AT_BALLOT_HOST] = (numbers[LEASE_FRAME_AT_BALLOT_HOST] + 1) % N;
+    if (faults & TICK_FAULT)
+        numbers[tick_place] = LEASE_FRAME_LAST_END + 1;
+    if (faults & HOST_FAULT)
+        numbers[host_place] = N;
+}
+
+/* The answer to several faults, one a bit: that of the lowest bit. */
+static uint8_t first_answer(const uint8_t *answers, unsigned faults)
+{
+    return faults == 0 ? LEASE_FRAME_DONE : answers[__builtin_ctz(faults)];
+}
+
+/* Faults of a reading, as bits in the order of refusals; those of its message come last. */
+enum {
+    READ_CELL = 1, READ_HEAD = 2, READ_KIND = 4, READ_LENGTH = 8, READ_TAIL = 16,
+    READ_MESSAGE_SHIFT = 5, READ_FAULTS = 256
+};
+
+static void reading_order(const struct sample *sample, int host_place, int tick_place)
+{
+    static const uint8_t answers[] = {LEASE_FRAME_CELL, LEASE_FRAME_CUT, LEASE_FRAME_KIND,
+            LEASE_FRAME_LENGTH, LEASE_FRAME_CUT,
+            LEASE_FRAME_HOST, LEASE_FRAME_TICK, LEASE_FRAME_PARTY};
+    for (unsigned faults = 1; faults < READ_FAULTS; faults++) {
+        uint64_t numbers[LEASE_FRAME_NUMBERS];
+        uint8_t frame[LEASE_FRAME_LONGEST];
+        memcpy(numbers, sample->numbers, sizeof numbers);
+        damage(numbers, host_place, tick_place, faults >> READ_MESSAGE_SHIFT);
+        size_t count = second_lay(numbers, frame);
+        if (faults & READ_LENGTH)
+            frame[0]++;
+        if (faults & READ_KIND)
+            frame[2] = KINDS + 1;
+        if (faults & READ_TAIL)
+            count--;
+        if (faults & READ_HEAD)
+            count = 3;
+        expect_read("order of refusals", faults & READ_CELL ? 0 : N, frame, count, numbers,
+                first_answer(answers, faults));
+    }
+}
+
+/* Faults of a writing, likewise; those of its message stand before the room. */
+enum {
+    WRITE_CELL = 1, WRITE_KIND = 2, WRITE_MESSAGE_SHIFT = 2, WRITE_ROOM = 32,
+    WRITE_FAULTS = 64
+};
+
+/* The faults that are still there when the message goes to nobody. */
+static unsigned faults_to_nobody(const struct sample *sample, int host_place, unsigned faults)
+{
+    faults &= ~(unsigned)WRITE_ROOM;
+    if (host_place == LEASE_FRAME_AT_TARGET)
+        faults &= ~((unsigned)HOST_FAULT << WRITE_MESSAGE_SHIFT);
+    if (party_place(sample) == LEASE_FRAME_AT_TARGET)
+        faults &= ~((unsigned)PARTY_FAULT << WRITE_MESSAGE_SHIFT);
+    return faults;
+}
+
+static void writing_order(const struct sample *sample, int host_place, int tick_place)
+{
+    static const uint8_t answers[] = {LEASE_FRAME_CELL, LEASE_FRAME_KIND,
+            LEASE_FRAME_HOST, LEASE_FRAME_TICK, LEASE_FRAME_PARTY, LEASE_FRAME_ROOM};
+    static const uint16_t nobody = 0;
+    for (unsigned faults = 1; faults < WRITE_FAULTS; faults++) {
+        uint8_t n = faults & WRITE_CELL ? N + 1 : N;
+        size_t room = faults & WRITE_ROOM ? sample->length - 1 : sample->length;
+        uint64_t numbers[LEASE_FRAME_NUMBERS];
+        memcpy(numbers, sample->numbers, sizeof numbers);
+        damage(numbers, host_place, tick_place, faults >> WRITE_MESSAGE_SHIFT);
+        if (faults & WRITE_KIND)
+            numbers[LEASE_FRAME_AT_KIND] = KINDS + 1;
+        expect_writes("order of refusals", n, numbers, room, first_answer(answers, faults));
+        expect_write("order of refusals to nobody", n, numbers, &nobody, room,
+                first_answer(answers, faults_to_nobody(sample, host_place, faults)));
+    }
+}
+
+/* The limits and the order at one place of a host and one of a tick, if the kind has both. */
+static void places(const struct sample *sample, int host_place, int tick_place)
+{
+    uint64_t kind = sample->numbers[LEASE_FRAME_AT_KIND];
+    if (!second_carries(kind, host_place) || !second_carries(kind, tick_place))
+        return;
+    ticks(sample, tick_place);
+    for (uint8_t n = 1; n <= LEASE_FRAME_HOSTS; n++)
+        hosts(sample, host_place, n);
+    reading_order(sample, host_place, tick_place);
+    writing_order(sample, host_place, tick_place);
+}
+
+static uint8_t set_answer(uint8_t n, const uint64_t *numbers, unsigned receivers, size_t room)
+{
+    unsigned ballot_host = 1u << numbers[LEASE_FRAME_AT_BALLOT_HOST];
+    size_t count = (size_t)__builtin_popcount(receivers);
+    if (receivers >> n != 0)
+        return LEASE_FRAME_HOST;
+    if (is_response(numbers[LEASE_FRAME_AT_KIND]) && (receivers & ~ballot_host) != 0)
+        return LEASE_FRAME_PARTY;
+    if (room < count * second_length(numbers[LEASE_FRAME_AT_KIND]))
+        return LEASE_FRAME_ROOM;
+    return LEASE_FRAME_DONE;
+}
+
+/* Every room for the target alone. */
+static void rooms(const struct sample *sample)
+{
+    for (size_t room = 0; room <= ROOM; room++)
+        expect_write("room", N, sample->numbers, NULL, room,
+                room < sample->length ? LEASE_FRAME_ROOM : LEASE_FRAME_DONE);
+}
+
+/* A set within the cell is tried in every room, another in the longest. */
+static void set_in_rooms(const uint64_t *numbers, uint8_t n, uint16_t receivers)
+{
+    for (size_t room = receivers >> n == 0 ? 0 : ROOM; room <= ROOM; room++)
+        expect_write("set", n, numbers, &receivers, room,
+                set_answer(n, numbers, receivers, room));
+}
+
+/* Every set that 16 bits can name. */
+static void sets(const struct sample *sample, uint8_t n)
+{
+    uint64_t numbers[LEASE_FRAME_NUMBERS];
+    sample_for(sample, n, numbers);
+    for (unsigned set = 0; set < FIELD_VALUES; set = next(set))
+        set_in_rooms(numbers, n, (uint16_t)set);
+}
+
+static void edges(const struct sample *sample)
+{
+    layouts(sample);
+    cuts(sample);
+    kinds(sample);
+    no_bytes(sample);
+    cells(sample);
+    parties(sample);
+    lacking_numbers(sample);
+    rooms(sample);
+    sets(sample, 1);
+    sets(sample, 3);
+    sets(sample, 9);
+    for (int i = 0; i < HOST_PLACES * TICK_PLACES; i++)
+        places(sample, host_places[i % HOST_PLACES], tick_places[i / HOST_PLACES]);
+}
+
+int main(int count, char **arguments)
+{
+    if (count == 2 && strcmp(arguments[1], "small") == 0)
+        stride = SMALL_STRIDE;
+    else if (count != 1)
+        fail("the only argument is `small`");
+    signal(SIGSEGV, touched);
+    moments();
+    for (int i = 0; i < KINDS; i++)
+        edges(&samples[i]);
+    return 0;
+}
