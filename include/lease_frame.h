@@ -2,8 +2,9 @@
  * Reading and writing the frames that the hosts of a lease cell send each
  * other, for host programs written in C.
  *
- * Link with libframe_c.a, which is for x86-64 Linux. No function allocates,
- * blocks, or keeps a pointer after it returns.
+ * Link with libframe_c.a, which `rt staticlib frame_c` makes and which is for
+ * x86-64 Linux. No function allocates, blocks, or keeps a pointer after it
+ * returns.
  *
  * `length` and `numbers` must not be NULL. A byte slice may be NULL if its
  * length is 0. No two arguments may overlap in memory.
@@ -82,8 +83,9 @@ uint8_t lease_frame_read(uint8_t n, const uint8_t *bytes, size_t bytes_len,
         uint64_t numbers[LEASE_FRAME_NUMBERS], size_t *length);
 
 /*
- * Writes a message as a frame to the start of `out`. Numbers that the kind
- * lacks are not looked at.
+ * Writes a message as a frame to the start of `out`. `end` is the keepers' end
+ * in kinds 3 and 4, and the holder's end in kind 6. Numbers that the kind lacks
+ * are not looked at.
  *
  * Done: *length is the number of bytes written; the rest of `out` is as it
  * was. Refused: *length is 0 and `out` is as it was. Refusals are checked in
@@ -97,8 +99,9 @@ uint8_t lease_frame_write(uint8_t n, uint16_t kind, uint8_t sender, uint8_t targ
 
 /*
  * Writes a message once for each host in `receivers`, where bit h stands for
- * host h: frames end to end, receivers rising. Done and refused are as in
- * lease_frame_write; all frames are written or none.
+ * host h: frames end to end, receivers rising. As in lease_frame_write, `end`
+ * is the keepers' end in kinds 3 and 4, and the holder's end in kind 6. Done and
+ * refused are as there too; all frames are written or none.
  *
  * A set that names a host of n or more is refused by 5; a response to a set
  * that names any but the ballot's host, by 7. An empty set is checked like any

@@ -3,8 +3,14 @@
  * cut, every length, kind, set and room, the order of refusals, and that no
  * byte outside what was lent is touched.
  *
- * With the argument `small` it tries fewer values of each, for a run under
- * valgrind.
+ * All of it is tried twice: with what is lent to a call at the end of a page,
+ * and at the start of one. The pages before and after cannot be touched.
+ *
+ * With the argument `small` it tries fewer values of each, once, for a run
+ * under valgrind. What is lent is then a heap block of exactly its size, and
+ * what the call is to write is unset, so that valgrind sees a touch on either
+ * side and a use of bytes that were never set. Whether the bytes that a call
+ * leaves alone are as they were is not seen there.
  */
 #define _DEFAULT_SOURCE
 #include <signal.h>
@@ -21,9 +27,9 @@ enum {
     N = LEASE_FRAME_HOSTS,
     FIELD_VALUES = 65536,   /* of the length, of the kind and of a set */
     SET_HOSTS = 16,
-    GUARD = 64,
     ROOM = LEASE_FRAME_LONGEST_SET + 1,
     AFTER = 2,              /* bytes that follow a frame */
+    PAGE = 4096,
     FILL = 0xA5
 };
 
@@ -55,27 +61,57 @@ static void fail(const char *format, ...)
     exit(1);
 }
 
-/* Says why the run ends when the page after the lent bytes is touched. */
+/* Says why the run ends when a page beside the lent bytes is touched. */
 static void touched(int signal_number)
 {
-    static const char text[] = "edges: a byte past those lent was touched\n";
+    static const char text[] = "edges: a byte outside those lent was touched\n";
     (void)signal_number;
     _exit(write(STDERR_FILENO, text, sizeof text - 1) < 0 ? 2 : 1);
 }
 
-/* The end of a page after which nothing can be read or written. */
-static uint8_t *page_end(void)
+/* Where that lies which is lent to a call. */
+enum placement { PAGE_END, PAGE_START, HEAP };
+
+static enum placement placement;
+
+/* What is lent to a call: each part has a page or a heap block to itself. */
+enum part { BYTES, NUMBERS, LENGTH, PARTS };
+
+/* The part's page, between two that cannot be read or written. */
+static uint8_t *page_of(enum part part)
 {
-    static uint8_t *end;
-    if (end == NULL) {
-        size_t page = (size_t)sysconf(_SC_PAGESIZE);
-        uint8_t *pages = mmap(NULL, 2 * page, PROT_READ | PROT_WRITE,
-                MAP_PRIVATE | MAP_ANONYMOUS, -1, 0);
-        if (pages == MAP_FAILED || mprotect(pages + page, page, PROT_NONE) != 0)
+    static uint8_t *pages[PARTS];
+    if (pages[part] == NULL) {
+        uint8_t *three = mmap(NULL, 3 * PAGE, PROT_NONE, MAP_PRIVATE | MAP_ANONYMOUS, -1, 0);
+        if (three == MAP_FAILED || mprotect(three + PAGE, PAGE, PROT_READ | PROT_WRITE) != 0)
             fail("no guarded page");
-        end = pages + page;
+        pages[part] = three + PAGE;
     }
-    return end;
+    return pages[part];
+}
+
+/* Lends so many bytes: filled in a page, unset on the heap. */
+static void *lend(enum part part, size_t size)
+{
+    if (placement == HEAP) {
+        void *block = malloc(size);
+        if (block == NULL)
+            fail("no memory");
+        return block;
+    }
+    return memset(page_of(part) + (placement == PAGE_END ? PAGE - size : 0), FILL, size);
+}
+
+static void take_back(void *lent)
+{
+    if (placement == HEAP)
+        free(lent);
+}
+
+/* How many of those lent can be compared after a call that writes the first `written`. */
+static size_t comparable(size_t written, size_t lent)
+{
+    return placement == HEAP ? written : lent;
 }
 
 static void compare_result(const char *what, const uint64_t *numbers, uint8_t answer,
@@ -87,29 +123,35 @@ static void compare_result(const char *what, const uint64_t *numbers, uint8_t an
                 answer, length, expected_answer, expected_length);
 }
 
-/* Reads bytes laid at the end of the page; `numbers` is the message if any is given. */
+/* Reads lent bytes; `numbers` is the message if any is given. */
 static void expect_read(const char *what, uint8_t n, const uint8_t *bytes, size_t count,
         const uint64_t *numbers, uint8_t expected_answer)
 {
     bool done = expected_answer == LEASE_FRAME_DONE;
-    uint8_t *lent = page_end() - count;
-    uint64_t given[LEASE_FRAME_NUMBERS], expected[LEASE_FRAME_NUMBERS];
-    size_t length = SIZE_MAX;
+    uint64_t expected[LEASE_FRAME_NUMBERS];
+    uint8_t *lent = lend(BYTES, count);
+    uint64_t *given = lend(NUMBERS, sizeof expected);
+    size_t *length = lend(LENGTH, sizeof *length);
     memcpy(lent, bytes, count);
-    memset(given, FILL, sizeof given);
-    memcpy(expected, done ? numbers : given, sizeof expected);
+    memset(expected, FILL, sizeof expected);
+    if (done)
+        memcpy(expected, numbers, sizeof expected);
 
-    uint8_t answer = lease_frame_read(n, lent, count, given, &length);
+    uint8_t answer = lease_frame_read(n, lent, count, given, length);
     compare_result(what, numbers, answer, expected_answer,
-            length, done ? second_length(numbers[LEASE_FRAME_AT_KIND]) : 0);
-    for (int place = 0; place < LEASE_FRAME_NUMBERS; place++) {
+            *length, done ? second_length(numbers[LEASE_FRAME_AT_KIND]) : 0);
+    size_t places = comparable(done ? LEASE_FRAME_NUMBERS : 0, LEASE_FRAME_NUMBERS);
+    for (size_t place = 0; place < places; place++) {
         if (given[place] != expected[place])
-            fail("%s, kind %llu: number %d is %llu, expected %llu", what,
+            fail("%s, kind %llu: number %zu is %llu, expected %llu", what,
                     (unsigned long long)numbers[LEASE_FRAME_AT_KIND], place,
                     (unsigned long long)given[place], (unsigned long long)expected[place]);
     }
     if (memcmp(lent, bytes, count) != 0)
         fail("%s: reading changed the bytes", what);
+    take_back(lent);
+    take_back(given);
+    take_back(length);
 }
 
 static size_t lay_each(const uint64_t *numbers, uint16_t receivers, uint8_t *out)
@@ -126,29 +168,32 @@ static size_t lay_each(const uint64_t *numbers, uint16_t receivers, uint8_t *out
     return length;
 }
 
-/* Writes between guard bytes: to the target, or to a set if `receivers` is not NULL. */
+/* Writes to lent room: to the target, or to a set if `receivers` is not NULL. */
 static void expect_write(const char *what, uint8_t n, const uint64_t *numbers,
         const uint16_t *receivers, size_t room, uint8_t expected_answer)
 {
-    uint8_t given[GUARD + ROOM + GUARD], expected[sizeof given];
-    size_t length = SIZE_MAX, expected_length = 0;
-    memset(given, FILL, sizeof given);
+    uint8_t expected[ROOM];
+    size_t expected_length = 0;
+    uint8_t *given = lend(BYTES, room);
+    size_t *length = lend(LENGTH, sizeof *length);
     memset(expected, FILL, sizeof expected);
     if (expected_answer == LEASE_FRAME_DONE)
-        expected_length = receivers == NULL ? second_lay(numbers, expected + GUARD)
-                : lay_each(numbers, *receivers, expected + GUARD);
+        expected_length = receivers == NULL ? second_lay(numbers, expected)
+                : lay_each(numbers, *receivers, expected);
 
     uint8_t answer = receivers == NULL
-            ? write_message(lease_frame_write, n, numbers, given + GUARD, room, &length)
+            ? write_message(lease_frame_write, n, numbers, given, room, length)
             : write_message_to(lease_frame_write_to, n, numbers, *receivers,
-                    given + GUARD, room, &length);
-    compare_result(what, numbers, answer, expected_answer, length, expected_length);
-    for (size_t i = 0; i < sizeof given; i++) {
+                    given, room, length);
+    compare_result(what, numbers, answer, expected_answer, *length, expected_length);
+    for (size_t i = 0; i < comparable(expected_length, room); i++) {
         if (given[i] != expected[i])
-            fail("%s, kind %llu, room %zu: byte %d is %u, expected %u", what,
+            fail("%s, kind %llu, room %zu: byte %zu is %u, expected %u", what,
                     (unsigned long long)numbers[LEASE_FRAME_AT_KIND], room,
-                    (int)i - GUARD, given[i], expected[i]);
+                    i, given[i], expected[i]);
     }
+    take_back(given);
+    take_back(length);
 }
 
 /* Writes to the target, and to the set of the target alone. */
@@ -244,20 +289,22 @@ static void kinds(const struct sample *sample)
 static void no_bytes(const struct sample *sample)
 {
     const uint64_t *numbers = sample->numbers;
-    uint64_t given[LEASE_FRAME_NUMBERS];
+    uint64_t *given = lend(NUMBERS, sizeof sample->numbers);
+    size_t *length = lend(LENGTH, sizeof *length);
     uint16_t target = (uint16_t)(1u << numbers[LEASE_FRAME_AT_TARGET]);
-    size_t length = SIZE_MAX;
-    uint8_t answer = lease_frame_read(N, NULL, 0, given, &length);
-    compare_result("reading NULL", numbers, answer, LEASE_FRAME_CUT, length, 0);
-    length = SIZE_MAX;
-    answer = write_message(lease_frame_write, N, numbers, NULL, 0, &length);
-    compare_result("writing to NULL", numbers, answer, LEASE_FRAME_ROOM, length, 0);
-    length = SIZE_MAX;
-    answer = write_message_to(lease_frame_write_to, N, numbers, target, NULL, 0, &length);
-    compare_result("writing a set to NULL", numbers, answer, LEASE_FRAME_ROOM, length, 0);
-    length = SIZE_MAX;
-    answer = write_message_to(lease_frame_write_to, N, numbers, 0, NULL, 0, &length);
-    compare_result("writing no frame to NULL", numbers, answer, LEASE_FRAME_DONE, length, 0);
+    uint8_t answer = lease_frame_read(N, NULL, 0, given, length);
+    compare_result("reading NULL", numbers, answer, LEASE_FRAME_CUT, *length, 0);
+    *length = SIZE_MAX;
+    answer = write_message(lease_frame_write, N, numbers, NULL, 0, length);
+    compare_result("writing to NULL", numbers, answer, LEASE_FRAME_ROOM, *length, 0);
+    *length = SIZE_MAX;
+    answer = write_message_to(lease_frame_write_to, N, numbers, target, NULL, 0, length);
+    compare_result("writing a set to NULL", numbers, answer, LEASE_FRAME_ROOM, *length, 0);
+    *length = SIZE_MAX;
+    answer = write_message_to(lease_frame_write_to, N, numbers, 0, NULL, 0, length);
+    compare_result("writing no frame to NULL", numbers, answer, LEASE_FRAME_DONE, *length, 0);
+    take_back(given);
+    take_back(length);
 }
 
 /* P11 and P12 of the moments worth fixing. */
@@ -491,15 +538,27 @@ static void edges(const struct sample *sample)
         places(sample, host_places[i % HOST_PLACES], tick_places[i / HOST_PLACES]);
 }
 
-int main(int count, char **arguments)
+/* All the edges, with what is lent placed there. */
+static void all_edges(enum placement lent_at)
 {
-    if (count == 2 && strcmp(arguments[1], "small") == 0)
-        stride = SMALL_STRIDE;
-    else if (count != 1)
-        fail("the only argument is `small`");
-    signal(SIGSEGV, touched);
+    placement = lent_at;
     moments();
     for (int i = 0; i < KINDS; i++)
         edges(&samples[i]);
+}
+
+int main(int count, char **arguments)
+{
+    bool small = count == 2 && strcmp(arguments[1], "small") == 0;
+    if (count != 1 && !small)
+        fail("the only argument is `small`");
+    signal(SIGSEGV, touched);
+    if (small) {
+        stride = SMALL_STRIDE;
+        all_edges(HEAP);
+    } else {
+        all_edges(PAGE_END);
+        all_edges(PAGE_START);
+    }
     return 0;
 }

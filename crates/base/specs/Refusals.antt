@@ -1,6 +1,6 @@
 -- The refusals of document 01 by number, and how an ordered list of them gives an answer. Assumes nothing.
 use Prim.Native.Nat.{ℕ}
-use mathlib.Core.Bool.{Bool, true, false, cond, _&&_}
+use mathlib.Core.Bool.{Bool, true, cond, _&&_}
 use mathlib.Core.List.{List, [], _∷_}
 
 abbrev pub done : ℕ

@@ -1,6 +1,6 @@
 -- Laws of the answers of reading and writing: which tests lead to which. Assumes nothing.
 use mathlib.Core.Path.{_≡_, refl, sym, ap, _∙_}
-use mathlib.Core.Bool.{Bool, true, false, cond, not}
+use mathlib.Core.Bool.{Bool, true, false, cond}
 use mathlib.Core.List.{List, [], _∷_, _++_}
 use Prim.Native.Nat.{ℕ, suc, _+_, _-_, _*_, _≤_, _<_, _^_}
 use native.Mathlib.Nat.{add-mul, one-mul, zero-mul}
@@ -10,18 +10,18 @@ use lib.ListN.{length, length-append}
 use lib.Dec.{leb, eqb}
 use borrow.Author.Tests.{leb-true, ltb-true, eqb-true, eqb-false}
 use Rattle.base.specs.Refusals.{Refusal, refusal, test, allHold, answer, refusedRoom}
-use Rattle.base.proofs.Tests.{told, both, true-false, numbered, answer-append}
-use Rattle.quorum.specs.Sets.{cellFits, isIn, isBelow, membersFrom, members}
+use Rattle.base.proofs.Tests.{both, numbered, answer-append}
+use Rattle.quorum.specs.Sets.{cellFits, isIn, membersFrom, members}
 use Rattle.quorum.proofs.Laws.{members-step, members-length}
 use Rattle.message.specs.declared.Numbers.{Numbers}
 use Rattle.message.specs.declared.Message.{Message}
-use Rattle.message.specs.Message.{sizeOf, kindOf, numbersOf, withTarget}
-use Rattle.message.specs.Faults.{Field, lentBytes, refusalsOf, setRefusals, faultOf, setFault}
-use Rattle.message.proofs.Laws.{kind-known, set-passed}
+use Rattle.message.specs.Message.{sizeOf, numbersOf, withTarget}
+use Rattle.message.specs.Faults.{Field, lentBytes, refusalsOf, refusalsTo, faultOf, faultTo}
+use Rattle.message.proofs.Laws.{kind-known, passed-to}
 use Rattle.layout.specs.Layout.{bytesOf, numbersIn}
 use Rattle.layout.proofs.Laws.{bytes-length}
 use Rattle.frame.specs.Reading.{toldLength, toldKind, readAnswer}
-use Rattle.frame.specs.Writing.{writeRefusals, answerOf, frameOf, writeAnswer, framesIn, framesOf, partOf, setAnswer}
+use Rattle.frame.specs.Writing.{writeRefusals, answerOf, frameOf, writeAnswer, framesIn, framesOf, partOf, answerTo}
 
 -- ---- reading
 
@@ -89,15 +89,15 @@ frames-step f set h n k = rw (members-step set h n k) (go (isIn set h) (membersF
     go false hs = refl
 
 -- as many frames as the set has hosts
-pub set-length : (n : ℕ) (m : Message) (set : ℕ) → setFault n (numbersOf m) set ≡ 0 → length (framesOf n m set) ≡ ones set * sizeOf (numbersOf m .kind)
+pub length-to : (n : ℕ) (m : Message) (set : ℕ) → faultTo n (numbersOf m) set ≡ 0 → length (framesOf n m set) ≡ ones set * sizeOf (numbersOf m .kind)
 unfolding framesOf
-set-length n m set e =
+length-to n m set e =
     let f = numbersOf m in
-    let b : set < 2 ^ n = ltb-true set (2 ^ n) (set-passed n f set e .target) in
+    let b : set < 2 ^ n = ltb-true set (2 ^ n) (passed-to n f set e .target) in
     frames-length f (members n set) (kind-known m) ∙ ap (λ (k : ℕ). k * sizeOf (f .kind)) (members-length n set b)
 
-pub set-found : (n : ℕ) (m : Message) (set room : ℕ) → answerOf n (setFault n (numbersOf m) set) (ones set * sizeOf (numbersOf m .kind)) room ≡ setAnswer n m set room
-unfolding setAnswer setFault numbered
-set-found n m set room =
+pub found-to : (n : ℕ) (m : Message) (set room : ℕ) → answerOf n (faultTo n (numbersOf m) set) (ones set * sizeOf (numbersOf m .kind)) room ≡ answerTo n m set room
+unfolding answerTo faultTo numbered
+found-to n m set room =
     let f = numbersOf m in
-    answer-found n (setRefusals n f set) (framesOf n m set) (ones set * sizeOf (f .kind)) room refl (set-length n m set)
+    answer-found n (refusalsTo n f set) (framesOf n m set) (ones set * sizeOf (f .kind)) room refl (length-to n m set)

@@ -1,6 +1,6 @@
 -- Worked frames of document 01, as one claim: P11 and P12, and that zero is an ordinary tick and end. Assumes nothing.
 use mathlib.Core.Path.{_≡_, refl}
-use mathlib.Core.List.{List, [], _∷_, _++_}
+use mathlib.Core.List.{List, [], _∷_}
 use Prim.Native.Nat.{ℕ}
 use Rattle.base.specs.Refusals.{allHold, answer}
 use Rattle.wire.specs.Wire.{le, numberAt, numbersAt, packed}
@@ -8,12 +8,11 @@ use Rattle.quorum.specs.Sets.{membersFrom}
 use Rattle.message.specs.declared.Message.{Message}
 use Rattle.message.specs.declared.Message.the-variants.{PrepareRequest, ProposeRequest}
 use Rattle.message.specs.Message.{lastTick, lastEnd, kindOf, numbersOf, messageOf}
-use Rattle.message.specs.Faults.{partyFits, faultOf, setParty}
+use Rattle.message.specs.Faults.{partyFits, faultOf, partyFitsTo}
 use Rattle.layout.specs.Layout.{moreOf, bytesOf, valueIn, numbersIn}
-use Rattle.frame.specs.declared.Reading.{Reading}
 use Rattle.frame.specs.declared.Reading.the-variants.{Whole, Refused}
 use Rattle.frame.specs.Reading.{readAnswer, readOf}
-use Rattle.frame.specs.Writing.{frameOf, writeAnswer, framesIn, framesOf, setAnswer}
+use Rattle.frame.specs.Writing.{frameOf, writeAnswer, framesIn, framesOf, answerTo}
 
 abbrev request : Message
 request = PrepareRequest (record { sender = 0; target = 2; ballot = record { tick = 105; host = 0 } })
@@ -38,8 +37,8 @@ pub record Moments : Type 0 where
   pub zero-read : readOf 1 zeroBytes ≡ Whole zeros 24
   pub zero-written : frameOf zeros ≡ zeroBytes
   pub zero-accepted : writeAnswer 1 zeros 24 ≡ 0
-  pub no-receivers : (setAnswer 3 request 0 0 ≡ 0) × (framesOf 3 request 0 ≡ [])
+  pub no-receivers : (answerTo 3 request 0 0 ≡ 0) × (framesOf 3 request 0 ≡ [])
 
 pub moments : Moments
-unfolding allHold answer le numberAt numbersAt packed membersFrom lastTick lastEnd kindOf numbersOf messageOf partyFits faultOf setParty moreOf bytesOf valueIn numbersIn readAnswer readOf frameOf writeAnswer framesIn framesOf setAnswer
+unfolding allHold answer le numberAt numbersAt packed membersFrom lastTick lastEnd kindOf numbersOf messageOf partyFits faultOf partyFitsTo moreOf bytesOf valueIn numbersIn readAnswer readOf frameOf writeAnswer framesIn framesOf answerTo
 moments = record { P11-read = refl; P11-written = refl; P12 = refl; zero-read = refl; zero-written = refl; zero-accepted = refl; no-receivers = (refl, refl) }

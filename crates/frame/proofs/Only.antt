@@ -1,8 +1,8 @@
 -- A frame is read only as the message it was made from. Assumes nothing.
 use mathlib.Core.Path.{_≡_, refl, sym, ap, _∙_}
 use mathlib.Core.Bool.{Bool, true, false, cond, not}
-use mathlib.Core.List.{List, [], _++_, append-nil}
-use Prim.Native.Nat.{ℕ, _≤_, _<_}
+use mathlib.Core.List.{List, [], _++_}
+use Prim.Native.Nat.{ℕ, _<_}
 use native.Mathlib.Omega.{arith}
 use lib.ListN.{length, getD, take}
 use lib.Dec.{leb, eqb}
@@ -11,16 +11,13 @@ use Rattle.base.specs.Refusals.{answer, allHold}
 use Rattle.quorum.specs.Sets.{cellFits}
 use Rattle.message.specs.declared.Message.{Message}
 use Rattle.message.specs.Message.{sizeOf, numbersOf, messageOf}
-use Rattle.message.specs.Faults.{faultOf}
-use Rattle.message.proofs.Laws.{size-least}
-use Rattle.layout.specs.Layout.{bytesOf, numbersIn}
+use Rattle.message.proofs.Laws.{size-least, message-numbers}
+use Rattle.layout.specs.Layout.{Fit, numbersIn}
 use Rattle.layout.proofs.Laws.{message-back, bytes-back}
-use Rattle.frame.specs.declared.Reading.{Reading}
 use Rattle.frame.specs.declared.Reading.the-variants.{Whole, Refused}
-use Rattle.frame.specs.Reading.{toldLength, toldKind, readAnswer, readWith, readOf}
-use Rattle.frame.specs.Writing.{frameOf, writeAnswer}
-use Rattle.frame.proofs.Answers.{answer-free, write-found}
-use Rattle.frame.proofs.Round.{read-frame}
+use Rattle.frame.specs.Reading.{toldLength, toldKind, readAnswer, readOf}
+use Rattle.frame.specs.Writing.{frameOf}
+use Rattle.frame.proofs.Round.{kind-back, frame-back}
 
 -- the tests that a read message passed
 pub record Accepted (n : ℕ) (s : List ℕ) (m : Message) (z : ℕ) : Type 0 where
@@ -66,14 +63,11 @@ read-only s bytes n m z q =
     let back = bytes-back s k bytes known (leb-true (sizeOf k) (length s) (t .room)) refl (eqb-true (toldLength s) (sizeOf k) (t .told)) in
     rw (← p .message, ← p .length, message-back s k known) (sym back)
 
--- two messages that may be written never share a frame
-pub frames-apart : (n : ℕ) (m m′ : Message) (room room′ : ℕ) → writeAnswer n m room ≡ 0 → writeAnswer n m′ room′ ≡ 0 → frameOf m ≡ frameOf m′ → m ≡ m′
-frames-apart n m m′ room room′ q q′ e =
-    let p = answer-free n _ _ room (write-found n m room ∙ q) in
-    let p′ = answer-free n _ _ room′ (write-found n m′ room′ ∙ q′) in
-    let r = read-frame n m [] (p .cell) (p .message) in
-    let r′ = read-frame n m′ [] (p′ .cell) (p′ .message) in
-    same (readOf n (frameOf m ++ [])) (readOf n (frameOf m′ ++ [])) (ap (λ (s : List ℕ). readOf n (s ++ [])) e) r r′
-  where
-    same : (a b : Reading) → a ≡ b → a ≡ Whole m (length (frameOf m)) → b ≡ Whole m′ (length (frameOf m′)) → m ≡ m′
-    same a b p q r = cc
+-- two messages whose numbers fit their fields never share a frame
+pub frames-apart : (m m′ : Message) → Fit (numbersOf m) → Fit (numbersOf m′) → frameOf m ≡ frameOf m′ → m ≡ m′
+frames-apart m m′ h h′ e =
+    let s = frameOf m ++ [] in
+    let same : frameOf m′ ++ [] ≡ s = ap (λ (l : List ℕ). l ++ []) (sym e) in
+    let k : numbersOf m .kind ≡ numbersOf m′ .kind = sym (kind-back m []) ∙ sym (ap toldKind same) ∙ kind-back m′ [] in
+    let f : numbersOf m ≡ numbersOf m′ = sym (frame-back m [] h) ∙ ap (numbersIn s) k ∙ sym (ap (λ (l : List ℕ). numbersIn l (numbersOf m′ .kind)) same) ∙ frame-back m′ [] h′ in
+    sym (message-numbers m) ∙ ap messageOf f ∙ message-numbers m′

@@ -1,30 +1,28 @@
 -- Reading what writing wrote gives the message and the frame's length, whatever follows; and bytes after a frame are not looked at.
 -- Assumes nothing.
 use mathlib.Core.Path.{_≡_, refl, sym, ap, _∙_}
-use mathlib.Core.Bool.{Bool, true, false, cond, not}
-use mathlib.Core.List.{List, [], _∷_, _++_, append-nil}
-use Prim.Native.Nat.{ℕ, _+_, _≤_, _<_, _^_}
+use mathlib.Core.Bool.{Bool, true, false, cond}
+use mathlib.Core.List.{List, _++_}
+use Prim.Native.Nat.{ℕ, _+_, _≤_}
 use native.Mathlib.Omega.{arith}
 use lib.ListN.{length, length-append, drop}
-use lib.Dec.{ltb, leb, eqb}
-use borrow.Author.Tests.{ltb-true, leb-true, eqb-true, eqb-false, le-leb, lt-leb, eq-eqb, ne-eqb}
+use lib.Dec.{leb, eqb}
+use borrow.Author.Tests.{ltb-true, leb-true, eqb-true, eqb-false, le-leb, eq-eqb, ne-eqb}
 use Rattle.base.specs.Refusals.{answer, allHold}
-use Rattle.base.proofs.Tests.{told, true-false}
 use Rattle.wire.specs.Wire.{le, numberAt, packed}
 use Rattle.wire.proofs.Laws.{number-within}
 use Rattle.quorum.specs.Sets.{cellFits}
 use Rattle.message.specs.declared.Numbers.{Numbers}
 use Rattle.message.specs.declared.Message.{Message}
-use Rattle.message.specs.declared.Message.the-variants.{PrepareRequest, PrepareEmpty, PrepareLease, ProposeRequest, ProposeResponse, Learn}
+use Rattle.message.specs.declared.Message.the-variants.{PrepareRequest, PrepareResponseEmpty, PrepareResponseLease, ProposeRequest, ProposeResponse, Learn}
 use Rattle.message.specs.Message.{lastTick, lastEnd, kindOf, sizeOf, numbersOf, messageOf}
-use Rattle.message.specs.Faults.{faultOf, partyFits}
-use Rattle.message.proofs.Laws.{Passed, fault-passed, kind-known, size-least, message-numbers}
-use Rattle.layout.specs.Layout.{moreOf, bytesOf, numbersIn}
-use Rattle.layout.proofs.Laws.{Fit, bytes-length, numbers-back, numbers-whole}
-use Rattle.frame.specs.declared.Reading.{Reading}
+use Rattle.message.specs.Faults.{faultOf}
+use Rattle.message.proofs.Laws.{fault-passed, kind-known, size-least, message-numbers}
+use Rattle.layout.specs.Layout.{Fit, bytesOf, numbersIn}
+use Rattle.layout.proofs.Laws.{bytes-length, numbers-back, numbers-whole}
 use Rattle.frame.specs.declared.Reading.the-variants.{Whole, Refused}
-use Rattle.frame.specs.Reading.{toldLength, toldKind, readAnswer, readWith, readOf, numberOf, lengthOf}
-use Rattle.frame.specs.Writing.{frameOf, writeAnswer, afterWrite}
+use Rattle.frame.specs.Reading.{toldLength, toldKind, readAnswer, readOf, numberOf}
+use Rattle.frame.specs.Writing.{frameOf, writeAnswer, writtenOf, afterWrite}
 use Rattle.frame.proofs.Answers.{read-whole, answer-free, cell-most, write-found}
 
 -- ---- the number of an answer
@@ -59,11 +57,11 @@ checked-fit n f c e =
     }
 
 -- a frame's first two fields
-kind-back : (m : Message) (t : List ℕ) → toldKind (frameOf m ++ t) ≡ numbersOf m .kind
+pub kind-back : (m : Message) (t : List ℕ) → toldKind (frameOf m ++ t) ≡ numbersOf m .kind
 unfolding frameOf bytesOf numbersOf kindOf packed le numberAt
 kind-back (PrepareRequest h) t = refl
-kind-back (PrepareEmpty h) t = refl
-kind-back (PrepareLease m) t = refl
+kind-back (PrepareResponseEmpty h) t = refl
+kind-back (PrepareResponseLease m) t = refl
 kind-back (ProposeRequest m) t = refl
 kind-back (ProposeResponse h) t = refl
 kind-back (Learn m) t = refl
@@ -71,8 +69,8 @@ kind-back (Learn m) t = refl
 length-back : (m : Message) (t : List ℕ) → toldLength (frameOf m ++ t) ≡ sizeOf (numbersOf m .kind)
 unfolding frameOf bytesOf numbersOf kindOf packed le numberAt
 length-back (PrepareRequest h) t = refl
-length-back (PrepareEmpty h) t = refl
-length-back (PrepareLease m) t = refl
+length-back (PrepareResponseEmpty h) t = refl
+length-back (PrepareResponseLease m) t = refl
 length-back (ProposeRequest m) t = refl
 length-back (ProposeResponse h) t = refl
 length-back (Learn m) t = refl
@@ -81,9 +79,9 @@ pub frame-length : (m : Message) → length (frameOf m) ≡ sizeOf (numbersOf m 
 unfolding frameOf
 frame-length m = bytes-length (numbersOf m) (kind-known m)
 
-frame-back : (n : ℕ) (m : Message) (t : List ℕ) → cellFits n ≡ true → faultOf n (numbersOf m) ≡ 0 → numbersIn (frameOf m ++ t) (numbersOf m .kind) ≡ numbersOf m
+pub frame-back : (m : Message) (t : List ℕ) → Fit (numbersOf m) → numbersIn (frameOf m ++ t) (numbersOf m .kind) ≡ numbersOf m
 unfolding frameOf
-frame-back n m t c e = numbers-back m t (checked-fit n (numbersOf m) c e)
+frame-back m t h = numbers-back m t h
 
 -- a message in which nothing is refused is read from its frame, whatever follows
 pub read-frame : (n : ℕ) (m : Message) (t : List ℕ) → cellFits n ≡ true → faultOf n (numbersOf m) ≡ 0 → readOf n (frameOf m ++ t) ≡ Whole m (length (frameOf m))
@@ -94,13 +92,13 @@ read-frame n m t c e =
     let k : 15 ≤ z = kind-known m in
     let l : length s ≡ z + length t = length-append (frameOf m) t ∙ ap (λ (x : ℕ). x + length t) (frame-length m) in
     let a = kind-back m t in
-    let back : numbersIn s (numbersOf m .kind) ≡ numbersOf m = frame-back n m t c e in
+    let back : numbersIn s (numbersOf m .kind) ≡ numbersOf m = frame-back m t (checked-fit n (numbersOf m) c e) in
     let w = read-whole n s c (le-leb 4 (length s) (omega arith)) (rw a (ne-eqb z 0 (λ q. omega arith))) (rw (a, length-back m t) (eq-eqb z z refl)) (rw a (le-leb z (length s) (omega arith))) in
     rw (w, a, back, e, message-numbers m, frame-length m)
 
--- where writing answers 0, reading what it left gives the message and what it wrote the length of
-pub write-read : (n : ℕ) (m : Message) (out : List ℕ) → writeAnswer n m (length out) ≡ 0 → readOf n (afterWrite n m out) ≡ Whole m (length (frameOf m))
-unfolding afterWrite
+-- where writing answers 0, reading what it left gives the message and the length that writing gave
+pub write-read : (n : ℕ) (m : Message) (out : List ℕ) → writeAnswer n m (length out) ≡ 0 → readOf n (afterWrite n m out) ≡ Whole m (writtenOf n m (length out) .len)
+unfolding afterWrite writtenOf
 write-read n m out q =
     let p = answer-free n _ _ (length out) (write-found n m (length out) ∙ q) in
     rw q (read-frame n m (drop (length (frameOf m)) out) (p .cell) (p .message))

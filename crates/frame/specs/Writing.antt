@@ -9,7 +9,7 @@ use Rattle.quorum.specs.Sets.{cellFits, members}
 use Rattle.message.specs.declared.Numbers.{Numbers}
 use Rattle.message.specs.declared.Message.{Message}
 use Rattle.message.specs.Message.{numbersOf, withTarget}
-use Rattle.message.specs.Faults.{Field, settings, lentBytes, refusalsOf, setRefusals}
+use Rattle.message.specs.Faults.{Field, settings, lentBytes, refusalsOf, refusalsTo}
 use Rattle.layout.specs.Layout.{bytesOf}
 use Rattle.frame.specs.declared.Written.{Written}
 
@@ -26,10 +26,6 @@ writtenWith a bytes = record { answer = a; len = cond (eqb a done) (length bytes
 -- what it leaves of the lent bytes
 abbrev pub afterWith : ℕ → List ℕ → List ℕ → List ℕ
 afterWith a bytes out = cond (eqb a done) (bytes ++ drop (length bytes) out) out
-
--- the same answer from what was found: of the message, of the bytes to write, and of the room
-unfoldable pub answerOf : ℕ → ℕ → ℕ → ℕ → ℕ
-answerOf n bad total room = cond (cellFits n) (cond (eqb bad done) (cond (leb total room) done refusedRoom) bad) refusedCell
 
 -- ---- to the message's own target
 
@@ -53,19 +49,25 @@ unfoldable pub framesIn : Numbers → List ℕ → List ℕ
 framesIn f [] = []
 framesIn f (h ∷ hs) = bytesOf (withTarget f h) ++ framesIn f hs
 
--- one frame, or none
-abbrev pub partOf : Bool → Numbers → List ℕ
-partOf on f = cond on (bytesOf f) []
-
 -- the frames to the hosts of a set, of n, receivers rising
 unfoldable pub framesOf : ℕ → Message → ℕ → List ℕ
 framesOf n m set = framesIn (numbersOf m) (members n set)
 
-unfoldable pub setAnswer : ℕ → Message → ℕ → ℕ → ℕ
-setAnswer n m set room = answer (writeRefusals n (setRefusals n (numbersOf m) set) (framesOf n m set) room)
+unfoldable pub answerTo : ℕ → Message → ℕ → ℕ → ℕ
+answerTo n m set room = answer (writeRefusals n (refusalsTo n (numbersOf m) set) (framesOf n m set) room)
 
-unfoldable pub setWritten : ℕ → Message → ℕ → ℕ → Written
-setWritten n m set room = writtenWith (setAnswer n m set room) (framesOf n m set)
+unfoldable pub writtenTo : ℕ → Message → ℕ → ℕ → Written
+writtenTo n m set room = writtenWith (answerTo n m set room) (framesOf n m set)
 
-unfoldable pub afterSet : ℕ → Message → ℕ → List ℕ → List ℕ
-afterSet n m set out = afterWith (setAnswer n m set (length out)) (framesOf n m set) out
+unfoldable pub afterWriteTo : ℕ → Message → ℕ → List ℕ → List ℕ
+afterWriteTo n m set out = afterWith (answerTo n m set (length out)) (framesOf n m set) out
+
+-- ---- what the code's parts give
+
+-- the same answer from what was found: of the message, of the bytes to write, and of the room
+unfoldable pub answerOf : ℕ → ℕ → ℕ → ℕ → ℕ
+answerOf n bad total room = cond (cellFits n) (cond (eqb bad done) (cond (leb total room) done refusedRoom) bad) refusedCell
+
+-- one frame, or none
+abbrev pub partOf : Bool → Numbers → List ℕ
+partOf on f = cond on (bytesOf f) []

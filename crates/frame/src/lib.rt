@@ -7,9 +7,8 @@ ghost use lib.Count.{ones};
 ghost use Rattle.quorum.specs.Sets.{members};
 ghost use Rattle.message.specs.Message.{sizeOf, messageOf};
 ghost use Rattle.message.specs.Faults.{faultOf};
-ghost use Rattle.layout.specs.Layout.{bytesOf};
 ghost use Rattle.frame.specs.Reading.{readWith, readOf, numberOf, lengthOf};
-ghost use Rattle.frame.specs.Writing.{answerOf, writtenOf, afterWrite, partOf, framesIn, setWritten, afterSet};
+ghost use Rattle.frame.specs.Writing.{answerOf, writtenOf, afterWrite, partOf, framesIn, writtenTo, afterWriteTo};
 use base::DONE;
 use base::REFUSED_CELL;
 use base::REFUSED_CUT;
@@ -155,12 +154,12 @@ fn total_of(set: u16, len: usize) -> usize
 // Writes the frames of a message to the hosts of a set end to end at the start of out, or leaves out as it is. The message's own
 // target is not looked at.
 pub fn write_to(n: u8, m: Message, set: u16, out: &mut [u8]) -> Written
-    ensures { λ r. ⌜ (r ≡ setWritten n m set (length (now (out .entry)))) × (now (out .exit) ≡ afterSet n m set (now (out .entry))) ⌝ }
+    ensures { λ r. ⌜ (r ≡ writtenTo n m set (length (now (out .entry)))) × (now (out .exit) ≡ afterWriteTo n m set (now (out .entry))) ⌝ }
 {
     let f = message::numbers_of(m);
     let len = message::kind_of(f.kind).len;
     let total = total_of(set, len);
-    let bad = message::set_fault(n, f, set);
+    let bad = message::fault_to(n, f, set);
     let answer = answer_of(n, bad, total, out.len());
     if answer != DONE {
         return Written { answer, len: 0 };

@@ -2,16 +2,17 @@
 ghost use mathlib.Core.Path.{_≡_};
 ghost use lib.ListN.{length};
 ghost use Rattle.frame.specs.Reading.{readOf, numberOf, lengthOf};
-ghost use Rattle.base.specs.Refusals.{answer};
-ghost use Rattle.frame_c.specs.Interface.{Wrote, kindRefusals, endOf, numbersAfter, handed, handedWritten, afterHanded, handedSetWritten, afterHandedSet};
+ghost use Rattle.frame_c.specs.Interface.{endOf, numbersAfter, handed, handedWritten, afterHanded, Wrote, handedWrittenTo, afterHandedTo, WroteTo, kindAnswer};
 use base::DONE;
 use base::REFUSED_CELL;
 use base::REFUSED_KIND;
 use frame::Reading;
 use frame::Written;
 use message::Ballot;
+use message::Head;
 use message::HoldersEnd;
 use message::KeepersEnd;
+use message::LEARN;
 use message::Numbers;
 
 fn end_of(f: Numbers) -> u64
@@ -74,24 +75,24 @@ fn handed_numbers(
 ) -> Numbers
     ensures { λ r. ⌜ r ≡ handed kind sender target tick host «accepted_tick» «accepted_host» owner end ⌝ }
 {
-    Numbers {
-        kind,
+    let head = Head {
         sender,
         target,
         ballot: Ballot { tick, host },
-        accepted: Ballot {
-            tick: accepted_tick,
-            host: accepted_host,
-        },
-        owner,
-        keepers: KeepersEnd(end),
-        holders: HoldersEnd(end),
+    };
+    let accepted = Ballot {
+        tick: accepted_tick,
+        host: accepted_host,
+    };
+    if kind == LEARN {
+        return message::numbers_with(kind, head, accepted, owner, KeepersEnd(0), HoldersEnd(end));
     }
+    message::numbers_with(kind, head, accepted, owner, KeepersEnd(end), HoldersEnd(0))
 }
 
 // 1, 3 for a kind that is none, or 0.
 fn kind_answer(n: u8, kind: u16) -> u8
-    ensures { λ r. ⌜ r ≡ answer (kindRefusals n kind) ⌝ }
+    ensures { λ r. ⌜ r ≡ kindAnswer n kind ⌝ }
 {
     if !quorum::cell_fits(n) {
         return REFUSED_CELL;
@@ -118,7 +119,7 @@ fn write_handed(n: u8, f: Numbers, out: &mut [u8]) -> Written
 
 // Writes the frames of numbers of a kind to a set of receivers; those that the kind lacks, and the target, are not looked at.
 fn write_handed_to(n: u8, f: Numbers, set: u16, out: &mut [u8]) -> Written
-    ensures { λ r. ⌜ (r ≡ handedSetWritten n f set (length (now (out .entry)))) × (now (out .exit) ≡ afterHandedSet n f set (now (out .entry))) ⌝ }
+    ensures { λ r. ⌜ (r ≡ handedWrittenTo n f set (length (now (out .entry)))) × (now (out .exit) ≡ afterHandedTo n f set (now (out .entry))) ⌝ }
 {
     let bad = kind_answer(n, f.kind);
     if bad != DONE {
@@ -137,8 +138,8 @@ pub extern "C" fn lease_frame_write(
     kind: u16,
     sender: u8,
     target: u8,
-    tick: u64,
-    host: u8,
+    ballot_tick: u64,
+    ballot_host: u8,
     accepted_tick: u64,
     accepted_host: u8,
     owner: u8,
@@ -146,16 +147,15 @@ pub extern "C" fn lease_frame_write(
     out: &mut [u8],
     len: &mut usize,
 ) -> u8
-    ensures { λ r. ⌜ Wrote (handedWritten n (handed kind sender target tick host «accepted_tick» «accepted_host» owner end) (length (now (out .entry))))
-        (afterHanded n (handed kind sender target tick host «accepted_tick» «accepted_host» owner end) (now (out .entry)))
-        r (now (len .exit)) (now (out .exit)) ⌝ }
+    ensures { λ r. ⌜ Wrote n (handed kind sender target «ballot_tick» «ballot_host» «accepted_tick» «accepted_host» owner end)
+        (now (out .entry)) r (now (len .exit)) (now (out .exit)) ⌝ }
 {
     let f = handed_numbers(
         kind,
         sender,
         target,
-        tick,
-        host,
+        ballot_tick,
+        ballot_host,
         accepted_tick,
         accepted_host,
         owner,
@@ -173,8 +173,8 @@ pub extern "C" fn lease_frame_write_to(
     n: u8,
     kind: u16,
     sender: u8,
-    tick: u64,
-    host: u8,
+    ballot_tick: u64,
+    ballot_host: u8,
     accepted_tick: u64,
     accepted_host: u8,
     owner: u8,
@@ -183,16 +183,15 @@ pub extern "C" fn lease_frame_write_to(
     out: &mut [u8],
     len: &mut usize,
 ) -> u8
-    ensures { λ r. ⌜ Wrote (handedSetWritten n (handed kind sender 0 tick host «accepted_tick» «accepted_host» owner end) receivers (length (now (out .entry))))
-        (afterHandedSet n (handed kind sender 0 tick host «accepted_tick» «accepted_host» owner end) receivers (now (out .entry)))
-        r (now (len .exit)) (now (out .exit)) ⌝ }
+    ensures { λ r. ⌜ WroteTo n (handed kind sender 0 «ballot_tick» «ballot_host» «accepted_tick» «accepted_host» owner end) receivers
+        (now (out .entry)) r (now (len .exit)) (now (out .exit)) ⌝ }
 {
     let f = handed_numbers(
         kind,
         sender,
         0,
-        tick,
-        host,
+        ballot_tick,
+        ballot_host,
         accepted_tick,
         accepted_host,
         owner,

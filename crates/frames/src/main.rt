@@ -102,10 +102,10 @@ fn no_room() {
 fn refused_writings() {
     written(b"write 1 cell", 0, 0, 105);
     written(b"write 5 host", 3, 3, 105);
-    written(b"write 6 tick", 3, 0, 281474976710657);
+    written(b"write 6 tick", 3, 0, message::LAST_TICK + 1);
     written(b"write 7 party", 3, 1, 105);
     no_room();
-    written(b"write 0 done", 3, 0, 281474976710656);
+    written(b"write 0 done", 3, 0, message::LAST_TICK);
 }
 
 // What writing a kind's sample to a set of receivers answers.

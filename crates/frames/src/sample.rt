@@ -15,9 +15,9 @@ pub fn request(sender: u8, tick: u64) -> Message {
 
 // A message of a kind, between hosts 0 and 2, of host 0's ballot at 105; the spread of clocks is 5.
 pub fn message_of_kind(kind: u16) -> Message {
-    let reply = message::kind_of(kind).reply;
-    let sender: u8 = if reply { 2 } else { 0 };
-    let target: u8 = if reply { 0 } else { 2 };
+    let response = message::kind_of(kind).response;
+    let sender: u8 = if response { 2 } else { 0 };
+    let target: u8 = if response { 0 } else { 2 };
     let head = Head {
         sender,
         target,

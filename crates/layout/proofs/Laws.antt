@@ -1,19 +1,19 @@
 -- Laws of the layout: the lengths in the table of kinds are those of the fields, and numbers as bytes and back. Assumes nothing.
 use mathlib.Core.Path.{_≡_, refl, sym, ap, _∙_}
 use mathlib.Core.List.{List, [], _∷_, _++_, map}
-use Prim.Native.Nat.{ℕ, zero, suc, _+_, _*_, _^_, _≤_, _<_}
+use Prim.Native.Nat.{ℕ, suc, _+_, _≤_, _<_}
 use native.Mathlib.Omega.{arith}
-use lib.ListN.{length, getD, take, drop}
+use lib.ListN.{length, getD, take}
 use lib.Dec.{lit<}
 use Rattle.wire.specs.Wire.{numberAt, total, numbersAt, packed}
 use Rattle.wire.proofs.Laws.{Fits, packed-length, numbers-packed, packed-numbers, numbers-within}
 use Rattle.message.specs.declared.Numbers.{Numbers}
 use Rattle.message.specs.declared.Message.{Message}
-use Rattle.message.specs.declared.Message.the-variants.{PrepareRequest, PrepareEmpty, PrepareLease, ProposeRequest, ProposeResponse, Learn}
+use Rattle.message.specs.declared.Message.the-variants.{PrepareRequest, PrepareResponseEmpty, PrepareResponseLease, ProposeRequest, ProposeResponse, Learn}
 use Rattle.message.specs.Message.{kindOf, sizeOf, numbersOf, messageOf}
 use Rattle.message.specs.Faults.{Field}
 use Rattle.message.proofs.Laws.{by-kind}
-use Rattle.layout.specs.Layout.{widthOf, common, moreOf, fieldsOf, widths, valueOf, bytesIn, bytesOf, valueIn, numbersFrom, numbersIn}
+use Rattle.layout.specs.Layout.{Fit, widthOf, common, moreOf, fieldsOf, widths, valueOf, bytesOf, valueIn, numbersFrom, numbersIn}
 
 -- ---- lengths
 
@@ -40,18 +40,6 @@ bytes-length f h =
 
 -- ---- there and back
 
--- numbers that fit their fields
-pub record Fit (f : Numbers) : Type 0 where
-  pub sender : f .sender < 256
-  pub target : f .target < 256
-  pub ballotTick : f .ballot .tick < 2 ^ 64
-  pub ballotHost : f .ballot .host < 256
-  pub acceptedTick : f .accepted .tick < 2 ^ 64
-  pub acceptedHost : f .accepted .host < 256
-  pub owner : f .owner < 256
-  pub keepersEnd : f .keepers .0 < 2 ^ 64
-  pub holdersEnd : f .holders .0 < 2 ^ 64
-
 common-fits : (f : Numbers) (more : List Field) → sizeOf (f .kind) < 65536 → f .kind < 65536 → Fit f → Fits (widths more) (map (valueOf f) more)
     → Fits (widths (common ++ more)) (map (valueOf f) (common ++ more))
 common-fits f more z k h m = (z, (k, (h .sender, (h .target, (h .ballotTick, (h .ballotHost, m))))))
@@ -59,8 +47,8 @@ common-fits f more z k h m = (z, (k, (h .sender, (h .target, (h .ballotTick, (h 
 fits : (m : Message) → Fit (numbersOf m) → Fits (widths (fieldsOf (numbersOf m .kind))) (map (valueOf (numbersOf m)) (fieldsOf (numbersOf m .kind)))
 unfolding numbersOf kindOf moreOf
 fits (PrepareRequest m) h = common-fits _ [] (lit< tt) (lit< tt) h tt
-fits (PrepareEmpty m) h = common-fits _ [] (lit< tt) (lit< tt) h tt
-fits (PrepareLease m) h = common-fits _ (moreOf 3) (lit< tt) (lit< tt) h (h .acceptedTick, (h .acceptedHost, (h .owner, (h .keepersEnd, tt))))
+fits (PrepareResponseEmpty m) h = common-fits _ [] (lit< tt) (lit< tt) h tt
+fits (PrepareResponseLease m) h = common-fits _ (moreOf 3) (lit< tt) (lit< tt) h (h .acceptedTick, (h .acceptedHost, (h .owner, (h .keepersEnd, tt))))
 fits (ProposeRequest m) h = common-fits _ (moreOf 4) (lit< tt) (lit< tt) h (h .owner, (h .keepersEnd, tt))
 fits (ProposeResponse m) h = common-fits _ [] (lit< tt) (lit< tt) h tt
 fits (Learn m) h = common-fits _ (moreOf 6) (lit< tt) (lit< tt) h (h .owner, (h .holdersEnd, tt))
@@ -70,8 +58,8 @@ from-values : (m : Message) →
     numbersFrom (f .kind) (fieldsOf (f .kind)) (map (valueOf f) (fieldsOf (f .kind))) ≡ f
 unfolding numbersOf moreOf valueIn
 from-values (PrepareRequest m) = refl
-from-values (PrepareEmpty m) = refl
-from-values (PrepareLease m) = refl
+from-values (PrepareResponseEmpty m) = refl
+from-values (PrepareResponseLease m) = refl
 from-values (ProposeRequest m) = refl
 from-values (ProposeResponse m) = refl
 from-values (Learn m) = refl

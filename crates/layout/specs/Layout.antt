@@ -1,11 +1,10 @@
 -- The layout of frames: document 01's fields, their widths and their order, and a frame's bytes as numbers and back. Assumes nothing.
-use Prim.Native.Nat.{ℕ}
+use Prim.Native.Nat.{ℕ, _^_, _<_}
 use mathlib.Core.Bool.{cond}
 use mathlib.Core.List.{List, [], _∷_, _++_, map}
 use lib.ListN.{getD}
 use lib.Dec.{eqb}
 use Rattle.wire.specs.Wire.{numberAt, numbersAt, packed}
-use Rattle.message.specs.declared.Ballot.{Ballot}
 use Rattle.message.specs.declared.Head.{Head}
 use Rattle.message.specs.declared.Lease.{Lease}
 use Rattle.message.specs.declared.Numbers.{Numbers}
@@ -81,26 +80,27 @@ bytesOf f = bytesIn f (fieldsOf (f .kind))
 
 -- ---- bytes as numbers
 
-abbrev pub place : Field → ℕ
-place settings = 0
-place lentBytes = 1
-place frameLength = 2
-place kindNumber = 3
-place sender = 4
-place target = 5
-place ballotTick = 6
-place ballotHost = 7
-place acceptedTick = 8
-place acceptedHost = 9
-place owner = 10
-place keepersEnd = 11
-place holdersEnd = 12
+-- a number for each field, to tell them apart
+abbrev pub fieldNumber : Field → ℕ
+fieldNumber settings = 0
+fieldNumber lentBytes = 1
+fieldNumber frameLength = 2
+fieldNumber kindNumber = 3
+fieldNumber sender = 4
+fieldNumber target = 5
+fieldNumber ballotTick = 6
+fieldNumber ballotHost = 7
+fieldNumber acceptedTick = 8
+fieldNumber acceptedHost = 9
+fieldNumber owner = 10
+fieldNumber keepersEnd = 11
+fieldNumber holdersEnd = 12
 
 -- the value of a field where fields have these values; 0 where it is none of them
 unfoldable pub valueIn : List Field → List ℕ → Field → ℕ
 valueIn [] vs x = 0
 valueIn (f ∷ fs) [] x = 0
-valueIn (f ∷ fs) (v ∷ vs) x = cond (eqb (place f) (place x)) v (valueIn fs vs x)
+valueIn (f ∷ fs) (v ∷ vs) x = cond (eqb (fieldNumber f) (fieldNumber x)) v (valueIn fs vs x)
 
 -- the numbers of a message of kind k whose fields have these values
 abbrev pub numbersFrom : ℕ → List Field → List ℕ → Numbers
@@ -119,10 +119,24 @@ numbersFrom k fs vs = record {
 unfoldable pub numbersIn : List ℕ → ℕ → Numbers
 numbersIn s k = numbersFrom k (fieldsOf k) (numbersAt s 0 (widths (fieldsOf k)))
 
--- ---- the groups that the code reads together
+-- ---- the groups that the code reads together; its proof ties these offsets to those of `numbersIn`
 
 abbrev pub headAt : List ℕ → Head
 headAt s = record { sender = numberAt s 4 1; target = numberAt s 5 1; ballot = record { tick = numberAt s 6 8; host = numberAt s 14 1 } }
 
 abbrev pub leaseAt : List ℕ → Lease
 leaseAt s = record { ballot = record { tick = numberAt s 15 8; host = numberAt s 23 1 }; owner = numberAt s 24 1; end = record { 0 = numberAt s 25 8 } }
+
+-- ---- what a frame can hold
+
+-- numbers that fit their fields
+pub record Fit (f : Numbers) : Type 0 where
+  pub sender : f .sender < 256
+  pub target : f .target < 256
+  pub ballotTick : f .ballot .tick < 2 ^ 64
+  pub ballotHost : f .ballot .host < 256
+  pub acceptedTick : f .accepted .tick < 2 ^ 64
+  pub acceptedHost : f .accepted .host < 256
+  pub owner : f .owner < 256
+  pub keepersEnd : f .keepers .0 < 2 ^ 64
+  pub holdersEnd : f .holders .0 < 2 ^ 64

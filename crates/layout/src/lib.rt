@@ -12,8 +12,11 @@ use message::Ballot;
 use message::Head;
 use message::HoldersEnd;
 use message::KeepersEnd;
+use message::LEARN;
 use message::Lease;
 use message::Numbers;
+use message::PREPARE_RESPONSE_LEASE;
+use message::PROPOSE_REQUEST;
 
 fn head_at(s: &[u8]) -> Head
     requires { ⌜ 15 ≤ length (now s) ⌝ }
@@ -51,18 +54,18 @@ pub fn numbers_at(s: &[u8], kind: u16) -> Numbers
     ensures { λ r. ⌜ r ≡ numbersIn (now (s .entry)) kind ⌝ }
 {
     let head = head_at(s);
-    if kind == 3 {
+    if kind == PREPARE_RESPONSE_LEASE {
         let l = lease_at(s);
         let ballot = l.ballot;
         let end = l.end;
         return message::numbers_with(kind, head, ballot, l.owner, end, HoldersEnd(0));
     }
     let none = Ballot { tick: 0, host: 0 };
-    if kind == 4 {
+    if kind == PROPOSE_REQUEST {
         let end = KeepersEnd(wire::get(s, 16, 8));
         return message::numbers_with(kind, head, none, wire::byte(s, 15), end, HoldersEnd(0));
     }
-    if kind == 6 {
+    if kind == LEARN {
         let end = HoldersEnd(wire::get(s, 16, 8));
         return message::numbers_with(kind, head, none, wire::byte(s, 15), KeepersEnd(0), end);
     }
@@ -101,17 +104,17 @@ fn put_more(out: &mut [u8], f: Numbers)
     ensures { λ _. ⌜ now (out .exit) ≡ sets (now (out .entry)) 15 (bytesIn f (moreOf (f .kind))) ⌝ }
 {
     let kind = f.kind;
-    if kind == 3 {
+    if kind == PREPARE_RESPONSE_LEASE {
         let accepted = f.accepted;
         put_ballot(out, 15, accepted);
         put_claim(out, 24, f.owner, f.keepers.0);
         return;
     }
-    if kind == 4 {
+    if kind == PROPOSE_REQUEST {
         put_claim(out, 15, f.owner, f.keepers.0);
         return;
     }
-    if kind == 6 {
+    if kind == LEARN {
         put_claim(out, 15, f.owner, f.holders.0);
     }
 }

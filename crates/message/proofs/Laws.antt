@@ -1,28 +1,27 @@
 -- Laws of messages as numbers, of the table of kinds, and of what is refused in a message. Assumes nothing.
-use mathlib.Core.Path.{_≡_, refl, sym, ap, _∙_}
+use mathlib.Core.Path.{_≡_, refl, sym, _∙_}
 use mathlib.Core.Bool.{Bool, true, false, cond, _&&_}
-use mathlib.Core.List.{List, [], _∷_}
-use Prim.Native.Nat.{ℕ, zero, suc, _≤_, _<_, _^_}
-use native.Mathlib.Omega.{arith}
+use mathlib.Core.List.{[], _∷_}
+use Prim.Native.Nat.{ℕ, zero, suc, _≤_, _<_}
 use lib.Dec.{lit≤, ltb, leb, eqb}
-use borrow.Author.Tests.{ltb-true, leb-true, lt-ltb, eqb-true, eq-eqb}
+use borrow.Author.Tests.{ltb-true, leb-true, lt-ltb, eq-eqb}
 use Rattle.base.specs.Refusals.{allHold, answer, test, refusal, refusedHost, refusedTick, refusedParty}
-use Rattle.base.proofs.Tests.{told, both, answer-passed, numbered}
-use Rattle.quorum.specs.Sets.{isIn, isBelow, isOnly}
-use Rattle.quorum.proofs.Laws.{Member, only-one}
+use Rattle.base.proofs.Tests.{both, answer-passed}
+use Rattle.quorum.specs.Sets.{Member, isIn, isBelow, isOnly}
+use Rattle.quorum.proofs.Laws.{only-one}
 use Rattle.message.specs.declared.Numbers.{Numbers}
 use Rattle.message.specs.declared.Message.{Message}
-use Rattle.message.specs.declared.Message.the-variants.{PrepareRequest, PrepareEmpty, PrepareLease, ProposeRequest, ProposeResponse, Learn}
+use Rattle.message.specs.declared.Message.the-variants.{PrepareRequest, PrepareResponseEmpty, PrepareResponseLease, ProposeRequest, ProposeResponse, Learn}
 use Rattle.message.specs.Message.{lastTick, lastEnd, kindRow, kindOf, sizeOf, numbersOf, messageOf, withTarget, messageTo}
-use Rattle.message.specs.Faults.{Field, hostTests, tickTests, messageRefusals, partyField, partyFits, faultOf, setParty, setFault}
+use Rattle.message.specs.Faults.{hostTests, tickTests, messageRefusals, partyField, partyFits, faultOf, partyFitsTo, faultTo}
 
 -- ---- messages as numbers
 
 pub message-numbers : (m : Message) → messageOf (numbersOf m) ≡ m
 unfolding messageOf numbersOf
 message-numbers (PrepareRequest h) = refl
-message-numbers (PrepareEmpty h) = refl
-message-numbers (PrepareLease m) = refl
+message-numbers (PrepareResponseEmpty h) = refl
+message-numbers (PrepareResponseLease m) = refl
 message-numbers (ProposeRequest m) = refl
 message-numbers (ProposeResponse h) = refl
 message-numbers (Learn m) = refl
@@ -31,8 +30,8 @@ message-numbers (Learn m) = refl
 pub numbers-to : (m : Message) (h : ℕ) → numbersOf (messageTo m h) ≡ withTarget (numbersOf m) h
 unfolding messageTo messageOf numbersOf
 numbers-to (PrepareRequest _) h = refl
-numbers-to (PrepareEmpty _) h = refl
-numbers-to (PrepareLease m) h = refl
+numbers-to (PrepareResponseEmpty _) h = refl
+numbers-to (PrepareResponseLease m) h = refl
 numbers-to (ProposeRequest m) h = refl
 numbers-to (ProposeResponse _) h = refl
 numbers-to (Learn m) h = refl
@@ -78,8 +77,8 @@ size-most = by-kind (λ (k : ℕ). sizeOf k ≤ 33) (lit≤ tt) (lit≤ tt) (lit
 pub kind-known : (m : Message) → 15 ≤ sizeOf (numbersOf m .kind)
 unfolding kindOf numbersOf
 kind-known (PrepareRequest h) = lit≤ tt
-kind-known (PrepareEmpty h) = lit≤ tt
-kind-known (PrepareLease m) = lit≤ tt
+kind-known (PrepareResponseEmpty h) = lit≤ tt
+kind-known (PrepareResponseLease m) = lit≤ tt
 kind-known (ProposeRequest m) = lit≤ tt
 kind-known (ProposeResponse h) = lit≤ tt
 kind-known (Learn m) = lit≤ tt
@@ -136,9 +135,9 @@ pub fault-passed : (n : ℕ) (f : Numbers) → faultOf n f ≡ 0 → Passed n f 
 unfolding faultOf
 fault-passed n f e = passed n f (ltb (f .target) n) (partyFits f) e
 
-pub set-passed : (n : ℕ) (f : Numbers) (set : ℕ) → setFault n f set ≡ 0 → Passed n f (isBelow set n) (setParty f set)
-unfolding setFault
-set-passed n f set e = passed n f (isBelow set n) (setParty f set) e
+pub passed-to : (n : ℕ) (f : Numbers) (set : ℕ) → faultTo n f set ≡ 0 → Passed n f (isBelow set n) (partyFitsTo f set)
+unfolding faultTo
+passed-to n f set e = passed n f (isBelow set n) (partyFitsTo f set) e
 
 -- where nothing is refused but what is found of target and party, those decide
 same-tests : (n : ℕ) (f : Numbers) (t p t′ p′ : Bool) → t′ ≡ t → p′ ≡ p → answer (messageRefusals n f t p) ≡ answer (messageRefusals n f t′ p′)
@@ -150,9 +149,9 @@ party-each true f set h m e = eq-eqb h (f .ballot .host) (only-one set (f .ballo
 party-each false f set h m e = e
 
 -- what may be sent to a set may be sent to each of its hosts
-pub set-each : (n : ℕ) (f : Numbers) (set h : ℕ) → setFault n f set ≡ 0 → Member n set h → faultOf n (withTarget f h) ≡ 0
-unfolding setFault faultOf partyFits setParty
-set-each n f set h e m =
-    let q = set-passed n f set e in
-    let p = party-each (kindOf (f .kind) .reply) f set h (m .within) (q .party) in
-    same-tests n f (ltb h n) _ (isBelow set n) (setParty f set) (q .target ∙ sym (lt-ltb h n (m .below))) (q .party ∙ sym p) ∙ e
+pub fault-each : (n : ℕ) (f : Numbers) (set h : ℕ) → faultTo n f set ≡ 0 → Member n set h → faultOf n (withTarget f h) ≡ 0
+unfolding faultTo faultOf partyFits partyFitsTo
+fault-each n f set h e m =
+    let q = passed-to n f set e in
+    let p = party-each (kindOf (f .kind) .response) f set h (m .within) (q .party) in
+    same-tests n f (ltb h n) _ (isBelow set n) (partyFitsTo f set) (q .target ∙ sym (lt-ltb h n (m .below))) (q .party ∙ sym p) ∙ e

@@ -45,7 +45,7 @@ tickTests f =
 
 -- which of sender and target has to be the ballot's host
 abbrev pub partyField : Numbers → Field
-partyField f = cond (kindOf (f .kind) .reply) target sender
+partyField f = cond (kindOf (f .kind) .response) target sender
 
 -- 5, 6, 7, given what was found of the target and of the party
 abbrev pub messageRefusals : ℕ → Numbers → Bool → Bool → List (Refusal Field)
@@ -57,7 +57,7 @@ messageRefusals n f targetFits partyFits =
 
 -- a message to its own target: in kinds 1, 4 and 6 the sender is the ballot's host, in 2, 3 and 5 the target is
 unfoldable pub partyFits : Numbers → Bool
-partyFits f = cond (kindOf (f .kind) .reply) (eqb (f .target) (f .ballot .host)) (eqb (f .sender) (f .ballot .host))
+partyFits f = cond (kindOf (f .kind) .response) (eqb (f .target) (f .ballot .host)) (eqb (f .sender) (f .ballot .host))
 
 abbrev pub refusalsOf : ℕ → Numbers → List (Refusal Field)
 refusalsOf n f = messageRefusals n f (ltb (f .target) n) (partyFits f)
@@ -66,11 +66,11 @@ unfoldable pub faultOf : ℕ → Numbers → ℕ
 faultOf n f = answer (refusalsOf n f)
 
 -- a message to a set of receivers, its own target not looked at: the set names no host of n or more, and in kinds 2, 3 and 5 none but the ballot's host
-unfoldable pub setParty : Numbers → ℕ → Bool
-setParty f set = cond (kindOf (f .kind) .reply) (isOnly set (f .ballot .host)) (eqb (f .sender) (f .ballot .host))
+unfoldable pub partyFitsTo : Numbers → ℕ → Bool
+partyFitsTo f set = cond (kindOf (f .kind) .response) (isOnly set (f .ballot .host)) (eqb (f .sender) (f .ballot .host))
 
-abbrev pub setRefusals : ℕ → Numbers → ℕ → List (Refusal Field)
-setRefusals n f set = messageRefusals n f (isBelow set n) (setParty f set)
+abbrev pub refusalsTo : ℕ → Numbers → ℕ → List (Refusal Field)
+refusalsTo n f set = messageRefusals n f (isBelow set n) (partyFitsTo f set)
 
-unfoldable pub setFault : ℕ → Numbers → ℕ → ℕ
-setFault n f set = answer (setRefusals n f set)
+unfoldable pub faultTo : ℕ → Numbers → ℕ → ℕ
+faultTo n f set = answer (refusalsTo n f set)

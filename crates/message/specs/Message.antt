@@ -11,7 +11,7 @@ use Rattle.message.specs.declared.Head.{Head}
 use Rattle.message.specs.declared.Kind.{Kind}
 use Rattle.message.specs.declared.Numbers.{Numbers}
 use Rattle.message.specs.declared.Message.{Message}
-use Rattle.message.specs.declared.Message.the-variants.{PrepareRequest, PrepareEmpty, PrepareLease, ProposeRequest, ProposeResponse, Learn}
+use Rattle.message.specs.declared.Message.the-variants.{PrepareRequest, PrepareResponseEmpty, PrepareResponseLease, ProposeRequest, ProposeResponse, Learn}
 
 -- ---- ticks and ends
 
@@ -37,10 +37,28 @@ isAbove a b = cond (eqb (a .tick) (b .tick)) (ltb (b .host) (a .host)) (ltb (b .
 
 -- ---- the kinds
 
-abbrev pub kindRow : ℕ → Bool → Kind
-kindRow l r = record { len = l; reply = r }
+abbrev pub prepareRequest : ℕ
+prepareRequest = 1
 
--- a frame's length, and whether the message is a reply, by kind from 0 on; there is no kind 0, and none is 0 long
+abbrev pub prepareResponseEmpty : ℕ
+prepareResponseEmpty = 2
+
+abbrev pub prepareResponseLease : ℕ
+prepareResponseLease = 3
+
+abbrev pub proposeRequest : ℕ
+proposeRequest = 4
+
+abbrev pub proposeResponse : ℕ
+proposeResponse = 5
+
+abbrev pub learn : ℕ
+learn = 6
+
+abbrev pub kindRow : ℕ → Bool → Kind
+kindRow l r = record { len = l; response = r }
+
+-- a frame's length, and whether the message is a response, by kind from 0 on; there is no kind 0, and none is 0 long
 abbrev pub kinds : List Kind
 kinds = kindRow 0 false ∷ kindRow 15 false ∷ kindRow 15 true ∷ kindRow 33 true ∷ kindRow 24 false ∷ kindRow 15 true ∷ kindRow 24 false ∷ []
 
@@ -67,24 +85,24 @@ numbers k h a o e f = record { kind = k; sender = h .sender; target = h .target;
 
 -- the numbers of a message; those that its kind lacks are 0
 unfoldable pub numbersOf : Message → Numbers
-numbersOf (PrepareRequest h) = numbers 1 h noBallot 0 noKeepers noHolders
-numbersOf (PrepareEmpty h) = numbers 2 h noBallot 0 noKeepers noHolders
-numbersOf (PrepareLease m) = numbers 3 (m .head) (m .accepted .ballot) (m .accepted .owner) (m .accepted .end) noHolders
-numbersOf (ProposeRequest m) = numbers 4 (m .head) noBallot (m .owner) (m .end) noHolders
-numbersOf (ProposeResponse h) = numbers 5 h noBallot 0 noKeepers noHolders
-numbersOf (Learn m) = numbers 6 (m .head) noBallot (m .owner) noKeepers (m .end)
+numbersOf (PrepareRequest h) = numbers prepareRequest h noBallot 0 noKeepers noHolders
+numbersOf (PrepareResponseEmpty h) = numbers prepareResponseEmpty h noBallot 0 noKeepers noHolders
+numbersOf (PrepareResponseLease m) = numbers prepareResponseLease (m .head) (m .accepted .ballot) (m .accepted .owner) (m .accepted .end) noHolders
+numbersOf (ProposeRequest m) = numbers proposeRequest (m .head) noBallot (m .owner) (m .end) noHolders
+numbersOf (ProposeResponse h) = numbers proposeResponse h noBallot 0 noKeepers noHolders
+numbersOf (Learn m) = numbers learn (m .head) noBallot (m .owner) noKeepers (m .end)
 
 abbrev pub headOf : Numbers → Head
 headOf f = record { sender = f .sender; target = f .target; ballot = f .ballot }
 
--- the message that numbers of a kind are of
+-- the message that numbers of a kind are of; a number that is no kind is taken as 6, and callers have refused it before, by 3
 unfoldable pub messageOf : Numbers → Message
 messageOf f =
-    cond (eqb (f .kind) 1) (PrepareRequest (headOf f))
-    (cond (eqb (f .kind) 2) (PrepareEmpty (headOf f))
-    (cond (eqb (f .kind) 3) (PrepareLease (record { head = headOf f; accepted = record { ballot = f .accepted; owner = f .owner; end = f .keepers } }))
-    (cond (eqb (f .kind) 4) (ProposeRequest (record { head = headOf f; owner = f .owner; end = f .keepers }))
-    (cond (eqb (f .kind) 5) (ProposeResponse (headOf f))
+    cond (eqb (f .kind) prepareRequest) (PrepareRequest (headOf f))
+    (cond (eqb (f .kind) prepareResponseEmpty) (PrepareResponseEmpty (headOf f))
+    (cond (eqb (f .kind) prepareResponseLease) (PrepareResponseLease (record { head = headOf f; accepted = record { ballot = f .accepted; owner = f .owner; end = f .keepers } }))
+    (cond (eqb (f .kind) proposeRequest) (ProposeRequest (record { head = headOf f; owner = f .owner; end = f .keepers }))
+    (cond (eqb (f .kind) proposeResponse) (ProposeResponse (headOf f))
     (Learn (record { head = headOf f; owner = f .owner; end = f .holders }))))))
 
 -- the same to another target

@@ -3,7 +3,7 @@ ghost use mathlib.Core.Path.{_≡_};
 ghost use Prim.Native.Nat.{_+_, _-_, _≤_};
 ghost use Rattle.base.specs.Refusals.{allHold, answer};
 ghost use Rattle.message.specs.Message.{lastEnd, isAbove, holdersOf, keepersOf, kindRow, kindOf, numbers, numbersOf, headOf, messageOf, withTarget};
-ghost use Rattle.message.specs.Faults.{hostTests, tickTests, messageRefusals, partyFits, setParty, faultOf, setFault};
+ghost use Rattle.message.specs.Faults.{hostTests, tickTests, messageRefusals, partyFits, partyFitsTo, faultOf, faultTo};
 use base::DONE;
 use base::REFUSED_HOST;
 use base::REFUSED_PARTY;
@@ -72,7 +72,7 @@ pub struct Head {
     pub ballot: Ballot,
 }
 
-pub struct LeaseReply {
+pub struct LeaseResponse {
     pub head: Head,
     pub accepted: Lease,
 }
@@ -83,7 +83,7 @@ pub struct Proposal {
     pub end: KeepersEnd,
 }
 
-pub struct Naming {
+pub struct LearnedLease {
     pub head: Head,
     pub owner: u8,
     pub end: HoldersEnd,
@@ -91,26 +91,39 @@ pub struct Naming {
 
 pub enum Message {
     PrepareRequest(Head),
-    PrepareEmpty(Head),
-    PrepareLease(LeaseReply),
+    PrepareResponseEmpty(Head),
+    PrepareResponseLease(LeaseResponse),
     ProposeRequest(Proposal),
     ProposeResponse(Head),
-    Learn(Naming),
+    Learn(LearnedLease),
 }
 
-// A kind of message: its frame's length, and whether it is a reply. A reply's target is the ballot's host; of any other the sender is.
+// The kinds of message by number.
+pub const PREPARE_REQUEST: u16 = 1;
+
+pub const PREPARE_RESPONSE_EMPTY: u16 = 2;
+
+pub const PREPARE_RESPONSE_LEASE: u16 = 3;
+
+pub const PROPOSE_REQUEST: u16 = 4;
+
+pub const PROPOSE_RESPONSE: u16 = 5;
+
+pub const LEARN: u16 = 6;
+
+// A kind of message: its frame's length, and whether it is a response. A response's target is the ballot's host; of any other the sender is.
 pub struct Kind {
     pub len: usize,
-    pub reply: bool,
+    pub response: bool,
 }
 
-fn kind_row(len: usize, reply: bool) -> Kind
-    ensures { λ r. ⌜ r ≡ kindRow len reply ⌝ }
+fn kind_row(len: usize, response: bool) -> Kind
+    ensures { λ r. ⌜ r ≡ kindRow len response ⌝ }
 {
-    Kind { len, reply }
+    Kind { len, response }
 }
 
-// The kinds by number. None is 0 long, so a length of 0 says that there is no such kind.
+// The table of kinds. None is 0 long, so a length of 0 says that there is no such kind.
 pub fn kind_of(kind: u16) -> Kind
     ensures { λ r. ⌜ r ≡ kindOf kind ⌝ }
 {
@@ -125,7 +138,7 @@ pub fn kind_of(kind: u16) -> Kind
     }
 }
 
-// The numbers of a message of any kind; those that its kind lacks are 0.
+// A message as numbers. `numbers_of` gives 0 for those that the kind lacks, and `message_of` does not look at them.
 pub struct Numbers {
     pub kind: u16,
     pub sender: u8,
@@ -168,15 +181,50 @@ pub fn numbers_of(m: Message) -> Numbers
     let no_keepers = KeepersEnd(0);
     let no_holders = HoldersEnd(0);
     match m {
-        Message::PrepareRequest(h) => numbers_with(1, h, none, 0, no_keepers, no_holders),
-        Message::PrepareEmpty(h) => numbers_with(2, h, none, 0, no_keepers, no_holders),
-        Message::PrepareLease(r) => {
+        Message::PrepareRequest(h) => numbers_with(
+            PREPARE_REQUEST,
+            h,
+            none,
+            0,
+            no_keepers,
+            no_holders,
+        ),
+        Message::PrepareResponseEmpty(h) => numbers_with(
+            PREPARE_RESPONSE_EMPTY,
+            h,
+            none,
+            0,
+            no_keepers,
+            no_holders,
+        ),
+        Message::PrepareResponseLease(r) => {
             let l = r.accepted;
-            numbers_with(3, r.head, l.ballot, l.owner, l.end, no_holders)
+            numbers_with(
+                PREPARE_RESPONSE_LEASE,
+                r.head,
+                l.ballot,
+                l.owner,
+                l.end,
+                no_holders,
+            )
         }
-        Message::ProposeRequest(p) => numbers_with(4, p.head, none, p.owner, p.end, no_holders),
-        Message::ProposeResponse(h) => numbers_with(5, h, none, 0, no_keepers, no_holders),
-        Message::Learn(l) => numbers_with(6, l.head, none, l.owner, no_keepers, l.end),
+        Message::ProposeRequest(p) => numbers_with(
+            PROPOSE_REQUEST,
+            p.head,
+            none,
+            p.owner,
+            p.end,
+            no_holders,
+        ),
+        Message::ProposeResponse(h) => numbers_with(
+            PROPOSE_RESPONSE,
+            h,
+            none,
+            0,
+            no_keepers,
+            no_holders,
+        ),
+        Message::Learn(l) => numbers_with(LEARN, l.head, none, l.owner, no_keepers, l.end),
     }
 }
 
@@ -191,7 +239,8 @@ pub fn head_of(f: Numbers) -> Head
     }
 }
 
-// The message that numbers of a kind are of; those that the kind lacks are not looked at.
+// The message that numbers of a kind are of; those that the kind lacks are not looked at. A number that is no kind is taken as 6: callers
+// have refused it before, by 3.
 pub fn message_of(f: Numbers) -> Message
     ensures { λ r. ⌜ r ≡ messageOf f ⌝ }
 {
@@ -203,8 +252,8 @@ pub fn message_of(f: Numbers) -> Message
     let kind = f.kind;
     match kind {
         1 => Message::PrepareRequest(head),
-        2 => Message::PrepareEmpty(head),
-        3 => Message::PrepareLease(LeaseReply {
+        2 => Message::PrepareResponseEmpty(head),
+        3 => Message::PrepareResponseLease(LeaseResponse {
             head,
             accepted: Lease {
                 ballot,
@@ -218,7 +267,7 @@ pub fn message_of(f: Numbers) -> Message
             end: keepers,
         }),
         5 => Message::ProposeResponse(head),
-        _ => Message::Learn(Naming {
+        _ => Message::Learn(LearnedLease {
             head,
             owner,
             end: holders,
@@ -235,10 +284,10 @@ pub fn with_target(f: Numbers, target: u8) -> Numbers
     g
 }
 
-pub fn hosts_fit(n: u8, f: Numbers, target_fits: bool) -> bool
-    ensures { λ r. ⌜ r ≡ allHold (hostTests n f «target_fits») ⌝ }
+pub fn hosts_fit(n: u8, f: Numbers, target_ok: bool) -> bool
+    ensures { λ r. ⌜ r ≡ allHold (hostTests n f «target_ok») ⌝ }
 {
-    (f.sender < n) & (target_fits & ((f.ballot.host < n) & ((f.accepted.host < n) & (f.owner < n))))
+    (f.sender < n) & (target_ok & ((f.ballot.host < n) & ((f.accepted.host < n) & (f.owner < n))))
 }
 
 pub fn ticks_fit(f: Numbers) -> bool
@@ -249,12 +298,12 @@ pub fn ticks_fit(f: Numbers) -> bool
 }
 
 // The number of the first refusal that a message's numbers meet, or 0, given what was found of its target and of its party.
-pub fn fault_with(n: u8, f: Numbers, target_fits: bool, party_fits: bool) -> u8
-    ensures { λ r. ⌜ r ≡ answer (messageRefusals n f «target_fits» «party_fits») ⌝ }
+pub fn fault_with(n: u8, f: Numbers, target_ok: bool, party_ok: bool) -> u8
+    ensures { λ r. ⌜ r ≡ answer (messageRefusals n f «target_ok» «party_ok») ⌝ }
 {
-    if hosts_fit(n, f, target_fits) {
+    if hosts_fit(n, f, target_ok) {
         if ticks_fit(f) {
-            if party_fits { DONE } else { REFUSED_PARTY }
+            if party_ok { DONE } else { REFUSED_PARTY }
         } else {
             REFUSED_TICK
         }
@@ -263,11 +312,11 @@ pub fn fault_with(n: u8, f: Numbers, target_fits: bool, party_fits: bool) -> u8
     }
 }
 
-// Whether the sender, or a reply's target, is the ballot's host.
-pub fn party_of(f: Numbers) -> bool
+// Whether the sender, or a response's target, is the ballot's host.
+pub fn party_fits(f: Numbers) -> bool
     ensures { λ r. ⌜ r ≡ partyFits f ⌝ }
 {
-    if kind_of(f.kind).reply {
+    if kind_of(f.kind).response {
         f.target == f.ballot.host
     } else {
         f.sender == f.ballot.host
@@ -278,14 +327,14 @@ pub fn party_of(f: Numbers) -> bool
 pub fn fault(n: u8, f: Numbers) -> u8
     ensures { λ r. ⌜ r ≡ faultOf n f ⌝ }
 {
-    fault_with(n, f, f.target < n, party_of(f))
+    fault_with(n, f, f.target < n, party_fits(f))
 }
 
-// Whether the sender is the ballot's host, or a reply's receivers are no host but that.
-pub fn set_party(f: Numbers, set: u16) -> bool
-    ensures { λ r. ⌜ r ≡ setParty f set ⌝ }
+// Whether the sender is the ballot's host, or a response's receivers are no host but that.
+pub fn party_fits_to(f: Numbers, set: u16) -> bool
+    ensures { λ r. ⌜ r ≡ partyFitsTo f set ⌝ }
 {
-    if kind_of(f.kind).reply {
+    if kind_of(f.kind).response {
         quorum::is_only(set, f.ballot.host)
     } else {
         f.sender == f.ballot.host
@@ -293,8 +342,8 @@ pub fn set_party(f: Numbers, set: u16) -> bool
 }
 
 // What is refused in a message to a set of receivers; its own target is not looked at.
-pub fn set_fault(n: u8, f: Numbers, set: u16) -> u8
-    ensures { λ r. ⌜ r ≡ setFault n f set ⌝ }
+pub fn fault_to(n: u8, f: Numbers, set: u16) -> u8
+    ensures { λ r. ⌜ r ≡ faultTo n f set ⌝ }
 {
-    fault_with(n, f, quorum::is_below(set, n), set_party(f, set))
+    fault_with(n, f, quorum::is_below(set, n), party_fits_to(f, set))
 }

@@ -3,17 +3,17 @@ use mathlib.Core.Path.{_≡_, refl, sym, ap, _∙_}
 use mathlib.Core.Bool.{Bool, true, false, cond, _||_}
 use mathlib.Core.List.{List, [], _∷_}
 use Prim.Native.Nat.{ℕ, zero, suc, _+_, _-_, _*_, _/_, _%_, _^_, _≤_, _<_}
-use native.Mathlib.Nat.{one-mul, mod-lt, div-self, div-eq-of-lt, div-one, mul-mod-left, zero-div, zero-mod}
+use native.Mathlib.Nat.{one-mul, mod-lt, div-self, div-eq-of-lt, div-one, mul-mod-left, zero-div}
 use native.Mathlib.Decide.{decLt, ℕ-discrete}
 use native.Mathlib.Omega.{arith}
 use lib.Count.{ones, onesIn, ones-step}
 use lib.Dec.{lit<, eqb}
 use lib.ListN.{length}
 use lib.Pow.{shl-exact, shl-shr, shr-shr, pow-pos, pow-mono, pow-lt, pow-add}
-use borrow.Author.Tests.{eqb-true, eq-eqb, ne-eqb}
+use borrow.Author.Tests.{eqb-true}
 use Rattle.base.specs.Lists.{All}
 use Rattle.base.proofs.Tests.{true-false}
-use Rattle.quorum.specs.Sets.{bit, isIn, single, isOnly, membersFrom, members}
+use Rattle.quorum.specs.Sets.{Member, bit, isIn, single, isOnly, membersFrom, members}
 
 -- a bit of a `u16` by a shift
 pub shifted : (i : ℕ) → i < 16 → (1 * 2 ^ i) % 2 ^ 16 ≡ 2 ^ i
@@ -66,15 +66,6 @@ members-step set h n k =
     let e : n - h ≡ suc (n - (h + 1)) = omega arith in
     let g : h + 1 ≡ suc h = omega arith in
     rw (e, g)
-
-pub members-end : (set h n : ℕ) → n ≤ h → membersFrom set h (n - h) ≡ []
-unfolding membersFrom
-members-end set h n k = let e : n - h ≡ 0 = omega arith in rw e
-
--- each is a host below n that is in the set
-pub record Member (n set h : ℕ) : Type 0 where
-  pub below : h < n
-  pub within : isIn set h ≡ true
 
 members-from : (n set h k : ℕ) → h + k ≤ n → All (Member n set) (membersFrom set h k)
 unfolding membersFrom All

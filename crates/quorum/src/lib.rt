@@ -1,13 +1,24 @@
 // How many hosts a cell may have, and sets of them: a u16 with one bit a host.
 ghost use mathlib.Core.Path.{_≡_};
-ghost use Prim.Native.Nat.{_<_, _^_};
-ghost use Rattle.quorum.specs.Sets.{cellFits, single, isBelow, isOnly, size};
+ghost use Prim.Native.Nat.{_<_};
+ghost use Rattle.quorum.specs.Sets.{cellFits, isIn, single, withHost, everyone, others, isBelow, isOnly, size, majority};
+
+// The most hosts that a cell may have.
+pub const MOST_HOSTS: u8 = 9;
 
 // Whether a cell may have n hosts.
 pub fn cell_fits(n: u8) -> bool
     ensures { λ r. ⌜ r ≡ cellFits n ⌝ }
 {
-    (1 <= n) & (n <= 9)
+    (1 <= n) & (n <= MOST_HOSTS)
+}
+
+// Whether a host is in a set.
+pub fn has(set: u16, host: u8) -> bool
+    requires { ⌜ host < 16 ⌝ }
+    ensures { λ r. ⌜ r ≡ isIn set host ⌝ }
+{
+    (set >> host) % 2 == 1
 }
 
 // The set of one host.
@@ -16,6 +27,30 @@ pub fn single_of(host: u8) -> u16
     ensures { λ r. ⌜ r ≡ single host ⌝ }
 {
     1u16 << host
+}
+
+// The set with one host more.
+pub fn with_host(set: u16, host: u8) -> u16
+    requires { ⌜ host < 16 ⌝ }
+    ensures { λ r. ⌜ r ≡ withHost set host ⌝ }
+{
+    set | single_of(host)
+}
+
+// The set of all n hosts.
+pub fn everyone_of(n: u8) -> u16
+    requires { ⌜ n < 16 ⌝ }
+    ensures { λ r. ⌜ r ≡ everyone n ⌝ }
+{
+    single_of(n) - 1
+}
+
+// The set of all n hosts but one of them.
+pub fn others_of(n: u8, host: u8) -> u16
+    requires { ⌜ (n < 16) × (host < n) ⌝ }
+    ensures { λ r. ⌜ r ≡ others n host ⌝ }
+{
+    everyone_of(n) - single_of(host)
 }
 
 // Whether a set names no host of n or more.
@@ -46,4 +81,11 @@ pub fn count(set: u16) -> u32
     ensures { λ r. ⌜ r ≡ size set ⌝ }
 {
     u16::count_ones(set)
+}
+
+// Whether a set is a majority of n hosts.
+pub fn is_majority(n: u8, set: u16) -> bool
+    ensures { λ r. ⌜ r ≡ majority n set ⌝ }
+{
+    n as u32 / 2 + 1 <= count(set)
 }

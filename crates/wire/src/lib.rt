@@ -1,4 +1,4 @@
-// Little-endian numbers in lent bytes, read and written at an offset: one width or one number of bytes for every field.
+// Little-endian numbers in lent bytes, read and written at an offset, over the width.
 ghost use mathlib.Core.Path.{_≡_};
 ghost use Prim.Native.Nat.{_+_, _*_, _≤_, _<_, _^_};
 ghost use lib.ListN.{length};
@@ -19,7 +19,7 @@ pub fn get(s: &[u8], at: usize, w: usize) -> u64
     v
 }
 
-// The byte at `at`, as the number of one byte that it is.
+// The byte at `at`.
 pub fn byte(s: &[u8], at: usize) -> u8
     requires { ⌜ at < length (now s) ⌝ }
     ensures { λ r. ⌜ r ≡ numberAt (now (s .entry)) at 1 ⌝ }

@@ -1,7 +1,7 @@
 use mathlib.Core.Path.{_≡_}
-use Rattle.message.specs.Message.{sizeOf}
 use borrow.Author.Tests.{eq-eqb, ne-eqb, not-true, not-false}
-use Rattle.base.specs.Refusals.{answer, allHold}
+use Rattle.message.specs.Message.{sizeOf}
+use Rattle.frame_c.specs.Interface.{kindAnswer}
 use borrow.Author.Needs.{needs}
 use Rattle.frame_c.proofs.kind_answer.Statement.{statement}
 use Rattle.frame_c.proofs.kind_answer.Tie as tie
@@ -13,18 +13,18 @@ cell-fits-requires : tie.Need-cell-fits-requires
 cell-fits-requires c κs = search needs
 
 returns : tie.Need-returns
-unfolding answer allHold
+unfolding kindAnswer
 returns c = rw (← c .before .cell-fits .ensures, not-true (c .before .cell-fits .result) (c .if1 .taken))
 
 kind-of-requires : tie.Need-kind-of-requires
 kind-of-requires c κs = search needs
 
 returns-2 : tie.Need-returns-2
-unfolding answer allHold
+unfolding kindAnswer
 returns-2 c = rw (← c .before .before .before .before .cell-fits .ensures, not-false (c .before .before .before .before .cell-fits .result) (c .before .before .before .if1 .left), size (c .before .before), eq-eqb _ _ (c .if2 .taken))
 
 returns-3 : tie.Need-returns-3
-unfolding answer allHold
+unfolding kindAnswer
 returns-3 c = rw (← c .before .before .before .before .cell-fits .ensures, not-false (c .before .before .before .before .cell-fits .result) (c .before .before .before .if1 .left), size (c .before .before), ne-eqb _ _ (c .if2 .left))
 
 pub kind-answer-spec : {M : Type 1} → statement M

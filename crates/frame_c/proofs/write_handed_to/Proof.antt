@@ -1,9 +1,9 @@
+use mathlib.Core.Path.{_≡_}
 use lib.ListN.{length}
-use mathlib.Core.Path.{_≡_, refl}
 use borrow.Author.Tests.{eq-eqb, ne-eqb}
-use Rattle.base.proofs.Tests.{answer-append, numbered}
-use Rattle.frame.specs.Writing.{setWritten, afterSet, setAnswer}
-use Rattle.frame_c.specs.Interface.{kindRefusals, handedSetWritten, afterHandedSet, handedSetAnswer}
+use Rattle.frame.specs.Writing.{writtenTo, afterWriteTo, answerTo}
+use Rattle.frame_c.specs.Interface.{handedAnswerTo, handedWrittenTo, afterHandedTo}
+use Rattle.frame_c.proofs.Laws.{kind-found}
 use borrow.Author.Needs.{needs}
 use Rattle.frame_c.proofs.write_handed_to.Statement.{statement}
 use Rattle.frame_c.proofs.write_handed_to.Tie as tie
@@ -12,11 +12,11 @@ kind-answer-requires : tie.Need-kind-answer-requires
 kind-answer-requires c κs = search needs
 
 returns : tie.Need-returns
-unfolding handedSetWritten afterHandedSet handedSetAnswer numbered
+unfolding handedWrittenTo afterHandedTo handedAnswerTo
 returns c =
     let a = c .before .before .before .args in
     let e = ne-eqb _ _ (c .if1 .taken) in
-    let d : handedSetAnswer (a .n) (a .f) (a .set) (length (a .out .now)) ≡ c .before .kind-answer .result = rw (answer-append (kindRefusals (a .n) (a .f .kind)) _ refl, ← c .before .kind-answer .ensures, e) in
+    let d : handedAnswerTo (a .n) (a .f) (a .set) (length (a .out .now)) ≡ c .before .kind-answer .result = rw (kind-found (a .n) (a .f .kind) _ _ _, ← c .before .kind-answer .ensures, e) in
     (rw (d, e), rw (d, e))
 
 message-of-requires : tie.Need-message-of-requires
@@ -29,13 +29,13 @@ same-length : tie.Need-same-length
 same-length c = search needs
 
 returns-2 : tie.Need-returns-2
-unfolding handedSetWritten afterHandedSet handedSetAnswer setWritten afterSet setAnswer numbered
+unfolding handedWrittenTo afterHandedTo handedAnswerTo writtenTo afterWriteTo answerTo
 returns-2 c =
     let a = c .before .before .before .before .before .before .before .before .args in
     let e = eq-eqb _ _ (c .before .before .before .before .before .if1 .left) in
     let w = c .before .before .write-to .ensures in (
-      rw (answer-append (kindRefusals (a .n) (a .f .kind)) _ refl, ← c .before .before .before .before .before .before .kind-answer .ensures, e, ← c .before .before .before .before .message-of .ensures) (w .0),
-      rw (answer-append (kindRefusals (a .n) (a .f .kind)) _ refl, ← c .before .before .before .before .before .before .kind-answer .ensures, e, ← c .before .before .before .before .message-of .ensures) (w .1),
+      rw (kind-found (a .n) (a .f .kind) _ _ _, ← c .before .before .before .before .before .before .kind-answer .ensures, e, ← c .before .before .before .before .message-of .ensures) (w .0),
+      rw (kind-found (a .n) (a .f .kind) _ _ _, ← c .before .before .before .before .before .before .kind-answer .ensures, e, ← c .before .before .before .before .message-of .ensures) (w .1),
     )
 
 pub write-handed-to-spec : {M : Type 1} → statement M

@@ -1,7 +1,7 @@
 use Rattle.message.specs.Faults.{partyFits}
 use borrow.Author.Needs.{needs}
-use Rattle.message.proofs.party_of.Statement.{statement}
-use Rattle.message.proofs.party_of.Tie as tie
+use Rattle.message.proofs.party_fits.Statement.{statement}
+use Rattle.message.proofs.party_fits.Tie as tie
 
 kind-of-requires : tie.Need-kind-of-requires
 kind-of-requires c κs = search needs
@@ -14,5 +14,5 @@ returns-2 : tie.Need-returns-2
 unfolding partyFits
 returns-2 c = rw (← c .before .before .kind-of .ensures, c .before .if1 .left)
 
-pub party-of-spec : {M : Type 1} → statement M
-party-of-spec = tie.close (tie.spec kind-of-requires returns returns-2)
+pub party-fits-spec : {M : Type 1} → statement M
+party-fits-spec = tie.close (tie.spec kind-of-requires returns returns-2)

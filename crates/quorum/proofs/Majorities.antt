@@ -1,0 +1,150 @@
+-- Laws of counting: adding a host to a set, a set's size as a sum over the hosts, and that two majorities share a host, with a weight
+-- for each host. Assumes nothing.
+use mathlib.Core.Path.{_≡_, refl, sym, ap, ap₂, _∙_, subst}
+use mathlib.Core.Bool.{true}
+use Prim.Native.Nat.{ℕ, zero, suc, _+_, _*_, _/_, _%_, _^_, _<_, max}
+use native.Mathlib.Nat.{one-mul, add-comm, mod-lt, mod-eq-of-lt, not-suc-le-zero, add-zero}
+use native.Mathlib.Numerals.{one-add}
+use native.Mathlib.Decide.{decLt, ℕ-discrete}
+use native.Mathlib.Omega.{arith}
+use lib.Arith.{digits-mod}
+use lib.Bits.{bitOr, or-shr, or-step, or-lt}
+use lib.Count.{ones, ones-cat}
+use lib.Pow.{pow-pos, pow-lt, mod-pow-add}
+use borrow.Author.Tests.{leb-true}
+use Rattle.quorum.specs.Sets.{bit, single, withHost, everyone, others, size, majority}
+use Rattle.quorum.proofs.Laws.{bit-le, single-same, single-other}
+
+-- ---- sums by index
+
+abbrev pub sum : (ℕ → ℕ) → ℕ → ℕ
+sum f zero = 0
+sum f (suc k) = sum f k + f k
+
+-- two sums that together exceed a third have a place where their parts do
+pub meet : (f g w : ℕ → ℕ) (n : ℕ) → sum w n < sum f n + sum g n → (i : ℕ) × (i < n) × (w i < f i + g i)
+meet f g w zero h = absurd (not-suc-le-zero h)
+meet f g w (suc k) h = go (decLt (w k) (f k + g k)) (meet f g w k)
+  where
+    go : Dec (w k < f k + g k) → (sum w k < sum f k + sum g k → (i : ℕ) × (i < k) × (w i < f i + g i)) → (i : ℕ) × (i < suc k) × (w i < f i + g i)
+    go (yes p) e = (k, omega arith, p)
+    go (no q) e =
+        let r : (i : ℕ) × (i < k) × (w i < f i + g i) = e (omega arith) in
+        (r .0, omega arith, r .2)
+
+sum-one : (n : ℕ) → sum (λ i. 1) n ≡ n
+sum-one zero = refl
+sum-one (suc n) = omega (arith, sum-one n)
+
+sum-parts : (f g k : ℕ → ℕ) (n : ℕ) → ((i : ℕ) → f i ≡ g i + k i) → sum f n ≡ sum g n + sum k n
+sum-parts f g k zero e = refl
+sum-parts f g k (suc n) e = omega (arith, e n, sum-parts f g k n e)
+
+-- ---- a set's size is the sum of its bits
+
+ones-bit : (b : ℕ) → b < 2 → ones b ≡ b
+unfolding ones
+ones-bit zero h = refl
+ones-bit (suc zero) h = refl
+ones-bit (suc (suc b)) h = absurd (omega arith)
+
+ones-sum : (s n : ℕ) → ones (s % 2 ^ n) ≡ sum (bit s) n
+unfolding ones
+ones-sum s zero = ap ones (native.Mathlib.Nat.mod-one s)
+ones-sum s (suc k) =
+    ap (λ (m : ℕ). ones (s % 2 ^ m)) (sym (one-add k))
+    ∙ ap ones (mod-pow-add s 1 k)
+    ∙ ones-cat k (bit s k) (s % 2 ^ k) (mod-lt s (pow-pos k))
+    ∙ ap₂ _+_ (ones-bit (bit s k) (bit-le s k)) (ones-sum s k)
+    ∙ add-comm (bit s k) (sum (bit s) k)
+
+pub size-sum : (s n : ℕ) → s < 2 ^ n → size s ≡ sum (bit s) n
+size-sum s n h = ap ones (sym (mod-eq-of-lt h)) ∙ ones-sum s n
+
+-- ---- two majorities meet
+
+-- with a weight for each host: two sets that together weigh more than all share a host that weighs something
+pub weighed-meet : (w : ℕ → ℕ) (n s t : ℕ)
+    → sum w n < sum (λ i. bit s i * w i) n + sum (λ i. bit t i * w i) n
+    → (i : ℕ) × (i < n) × (bit s i ≡ 1) × (bit t i ≡ 1)
+weighed-meet w n s t h =
+    let m = meet (λ i. bit s i * w i) (λ i. bit t i * w i) w n h in
+    let b = both (bit s (m .0)) (bit t (m .0)) (w (m .0)) (bit-le s (m .0)) (bit-le t (m .0)) (m .2) in
+    (m .0, m .1, b .0, b .1)
+  where
+    both : (a b v : ℕ) → a < 2 → b < 2 → v < a * v + b * v → (a ≡ 1) × (b ≡ 1)
+    both zero zero v ha hb p = absurd (omega arith)
+    both zero (suc zero) v ha hb p = absurd (omega arith)
+    both zero (suc (suc b)) v ha hb p = absurd (omega arith)
+    both (suc zero) zero v ha hb p = absurd (omega arith)
+    both (suc zero) (suc zero) v ha hb p = (refl, refl)
+    both (suc zero) (suc (suc b)) v ha hb p = absurd (omega arith)
+    both (suc (suc a)) b v ha hb p = absurd (omega arith)
+
+sum-weighed : (f : ℕ → ℕ) (n : ℕ) → sum (λ i. f i * 1) n ≡ sum f n
+sum-weighed f zero = refl
+sum-weighed f (suc n) = omega (arith, sum-weighed f n)
+
+-- two majorities of n hosts share a host: the weights are 1
+pub majorities-meet : (n s t : ℕ) → s < 2 ^ n → t < 2 ^ n → majority n s ≡ true → majority n t ≡ true → (i : ℕ) × (i < n) × (bit s i ≡ 1) × (bit t i ≡ 1)
+unfolding majority
+majorities-meet n s t hs ht ms mt =
+    weighed-meet (λ i. 1) n s t
+    (omega (
+      arith,
+      leb-true (n / 2 + 1) (size s) ms,
+      leb-true (n / 2 + 1) (size t) mt,
+      size-sum s n hs,
+      size-sum t n ht,
+      sum-one n,
+      sum-weighed (bit s) n,
+      sum-weighed (bit t) n,
+    ))
+
+-- ---- adding a host
+
+max-lt : (a b : ℕ) → a < 2 → b < 2 → max a b < 2
+max-lt a b p q = omega arith
+
+or-bit : (a b i : ℕ) → bit (bitOr a b) i ≡ max (bit a i) (bit b i)
+or-bit a b i =
+    ap (λ (x : ℕ). x % 2) (or-shr a b i ∙ or-step (a / 2 ^ i) (b / 2 ^ i))
+    ∙ digits-mod (bitOr (a / 2 ^ i / 2) (b / 2 ^ i / 2)) (max-lt (bit a i) (bit b i) (bit-le a i) (bit-le b i))
+
+pub with-same : (s h : ℕ) → bit (withHost s h) h ≡ 1
+with-same s h = or-bit s (single h) h ∙ omega (arith, single-same h, bit-le s h)
+
+pub with-other : (s h i : ℕ) → (h ≡ i → ⊥) → bit (withHost s h) i ≡ bit s i
+with-other s h i e = or-bit s (single h) i ∙ omega (arith, single-other h i e)
+
+pub with-below : (n s h : ℕ) → s < 2 ^ n → h < n → withHost s h < 2 ^ n
+with-below n s h p q = or-lt n s (single h) p (pow-lt q)
+
+size-single : (h : ℕ) → size (single h) ≡ 1
+unfolding ones
+size-single h = ap ones (sym (add-zero (1 * 2 ^ h) ∙ one-mul (2 ^ h))) ∙ ones-cat h 1 0 (pow-pos h)
+
+-- a host that was not in the set raises its size by one
+pub size-with : (n s h : ℕ) → s < 2 ^ n → h < n → bit s h ≡ 0 → size (withHost s h) ≡ size s + 1
+size-with n s h p q e =
+    let parts : (i : ℕ) → bit (withHost s h) i ≡ bit s i + bit (single h) i = λ i. at i (ℕ-discrete h i) in
+    omega (
+      arith,
+      size-sum (withHost s h) n (with-below n s h p q),
+      size-sum s n p,
+      size-sum (single h) n (pow-lt q),
+      size-single h,
+      sum-parts (bit (withHost s h)) (bit s) (bit (single h)) n parts,
+    )
+  where
+    at : (i : ℕ) → Dec (h ≡ i) → bit (withHost s h) i ≡ bit s i + bit (single h) i
+    at i (yes r) = subst (λ (j : ℕ). bit (withHost s h) j ≡ bit s j + bit (single h) j) r (omega (arith, with-same s h, single-same h))
+    at i (no r) = omega (arith, with-other s h i r, single-other h i r)
+
+-- ---- all hosts, and all but one
+
+pub everyone-below : (n : ℕ) → everyone n < 2 ^ n
+everyone-below n = omega (arith, pow-pos n)
+
+pub others-below : (n h : ℕ) → others n h < 2 ^ n
+others-below n h = omega (arith, pow-pos n)
