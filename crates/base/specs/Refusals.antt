@@ -2,6 +2,7 @@
 use Prim.Native.Nat.{ℕ}
 use mathlib.Core.Bool.{Bool, true, cond, _&&_}
 use mathlib.Core.List.{List, [], _∷_}
+use lib.Dec.{eqb}
 
 abbrev pub done : ℕ
 done = 0
@@ -30,6 +31,18 @@ refusedParty = 7
 abbrev pub refusedRoom : ℕ
 refusedRoom = 8
 
+abbrev pub refusedWaiting : ℕ
+refusedWaiting = 9
+
+abbrev pub refusedSameTick : ℕ
+refusedSameTick = 10
+
+abbrev pub refusedDuration : ℕ
+refusedDuration = 11
+
+abbrev pub refusedClock : ℕ
+refusedClock = 15
+
 -- what has to hold of a field
 pub record Test (Field : Type 0) : Type 0 where
   pub field : Field
@@ -55,3 +68,14 @@ allHold (t ∷ (u ∷ ts)) = t .holds && allHold (u ∷ ts)
 unfoldable pub answer : {Field : Type 0} → List (Refusal Field) → ℕ
 answer [] = done
 answer (r ∷ rs) = cond (allHold (r .tests)) (answer rs) (r .number)
+
+-- ---- answers that name no field
+
+-- 0 where a test holds, else the refusal's number
+abbrev pub unless : Bool → ℕ → ℕ
+unless b k = cond b done k
+
+-- the first number that is not 0, or 0
+unfoldable pub firstOf : List ℕ → ℕ
+firstOf [] = done
+firstOf (k ∷ ks) = cond (eqb k done) (firstOf ks) k

@@ -16,3 +16,11 @@ pub const REFUSED_TICK: u8 = 6;
 pub const REFUSED_PARTY: u8 = 7;
 
 pub const REFUSED_ROOM: u8 = 8;
+
+pub const REFUSED_WAITING: u8 = 9;
+
+pub const REFUSED_SAME_TICK: u8 = 10;
+
+pub const REFUSED_DURATION: u8 = 11;
+
+pub const REFUSED_CLOCK: u8 = 15;

@@ -168,7 +168,7 @@ fn lengths_of_kind(kind: u16) {
         lengths_answered(bytes, answer);
         answer = answer + 1;
     }
-    show::line_end();
+    print::line_end();
 }
 
 fn all_lengths() {

@@ -1,6 +1,6 @@
 -- Document 01's ballots, ends, messages and kinds, and a message as numbers. Assumes nothing.
 use Prim.Native.Nat.{ℕ, _+_, _-_, _^_}
-use mathlib.Core.Bool.{Bool, true, false, cond}
+use mathlib.Core.Bool.{Bool, true, false, cond, _&&_}
 use mathlib.Core.List.{List, [], _∷_}
 use lib.ListN.{getD}
 use lib.Dec.{ltb, eqb}
@@ -34,6 +34,9 @@ keepersOf e spread = record { 0 = e .0 + spread }
 
 unfoldable pub isAbove : Ballot → Ballot → Bool
 isAbove a b = cond (eqb (a .tick) (b .tick)) (ltb (b .host) (a .host)) (ltb (b .tick) (a .tick))
+
+abbrev pub isSame : Ballot → Ballot → Bool
+isSame a b = eqb (a .tick) (b .tick) && eqb (a .host) (b .host)
 
 -- ---- the kinds
 

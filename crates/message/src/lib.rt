@@ -2,7 +2,7 @@
 ghost use mathlib.Core.Path.{_≡_};
 ghost use Prim.Native.Nat.{_+_, _-_, _≤_};
 ghost use Rattle.base.specs.Refusals.{allHold, answer};
-ghost use Rattle.message.specs.Message.{lastEnd, isAbove, holdersOf, keepersOf, kindRow, kindOf, numbers, numbersOf, headOf, messageOf, withTarget};
+ghost use Rattle.message.specs.Message.{lastEnd, isAbove, isSame, holdersOf, keepersOf, kindRow, kindOf, numbers, numbersOf, headOf, messageOf, withTarget};
 ghost use Rattle.message.specs.Faults.{hostTests, tickTests, messageRefusals, partyFits, partyFitsTo, faultOf, faultTo};
 use base::DONE;
 use base::REFUSED_HOST;
@@ -29,6 +29,12 @@ impl Ballot {
             return other.host < self.host;
         }
         other.tick < self.tick
+    }
+
+    pub fn same(self, other: Ballot) -> bool
+        ensures { λ r. ⌜ r ≡ isSame self other ⌝ }
+    {
+        (self.tick == other.tick) & (self.host == other.host)
     }
 }
 

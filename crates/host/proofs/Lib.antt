@@ -1,0 +1,4 @@
+pub mod Limits
+pub mod Writable
+pub mod Kept
+pub mod Majority

@@ -1,0 +1,118 @@
+-- The leaf rules of a host, in document 01's order, each with the sentence it stands for. Assumes nothing.
+use Prim.Native.Nat.{ℕ, _+_}
+use mathlib.Core.Bool.{Bool, true, false, cond, not}
+use lib.Dec.{ltb, leb, eqb}
+use Rattle.quorum.specs.Sets.{isIn, majority}
+use Rattle.message.specs.declared.Ballot.{Ballot}
+use Rattle.message.specs.declared.KeepersEnd.{KeepersEnd}
+use Rattle.message.specs.declared.Lease.{Lease}
+use Rattle.message.specs.Message.{isAbove, keepersOf}
+use Rattle.rules.specs.declared.Promised.{Promised}
+use Rattle.rules.specs.declared.Accepted.{Accepted}
+use Rattle.rules.specs.declared.LastTick.{LastTick}
+use Rattle.rules.specs.declared.Holder.{Holder}
+use Rattle.rules.specs.declared.Named.{Named}
+use Rattle.rules.specs.declared.Claim.{Claim}
+use Rattle.rules.specs.declared.Vote.{Vote}
+
+-- ---- waiting, time and restart
+
+-- 'until then the host is waiting'
+abbrev pub isWaiting : ℕ → ℕ → Bool
+isWaiting clock wait = ltb clock wait
+
+-- 'the wait ends at clock + T + S'
+unfoldable pub waitEnd : ℕ → ℕ → ℕ → ℕ
+waitEnd clock longest spread = clock + longest + spread
+
+-- 'drops an accepted lease .. whose end is at or below its clock'
+unfoldable pub acceptedAt : ℕ → Accepted → Accepted
+acceptedAt clock Accepted.Nothing = Accepted.Nothing
+acceptedAt clock (Accepted.One l) = cond (leb (l .end .0) clock) Accepted.Nothing (Accepted.One l)
+
+-- 'or named holder whose end is at or below its clock'
+unfoldable pub namedAt : ℕ → Named → Named
+namedAt clock Named.Nobody = Named.Nobody
+namedAt clock (Named.One h) = cond (leb (h .end .0) clock) Named.Nobody (Named.One h)
+
+-- ---- start
+
+-- 'ballot (clock, host)'
+abbrev pub ballotAt : ℕ → ℕ → Ballot
+ballotAt clock number = record { tick = clock; host = number }
+
+-- refusal 10 where it does not hold: the clock is above the last ballot's tick
+unfoldable pub isFresh : LastTick → ℕ → Bool
+isFresh LastTick.Never clock = true
+isFresh (LastTick.At t) clock = ltb t clock
+
+-- ---- prepare request
+
+-- 'nothing is promised or the ballot is above the promise'
+unfoldable pub mayPromise : Promised → Ballot → Bool
+mayPromise Promised.Nothing b = true
+mayPromise (Promised.To p) b = isAbove b p
+
+-- ---- prepare response
+
+-- 'from a host not yet counted'
+abbrev pub counts : ℕ → ℕ → Bool
+counts replied sender = not (isIn replied sender)
+
+-- 'a lease whose end is at or below the receiver's clock' is discarded (001, rule 5)
+unfoldable pub hasEnded : ℕ → Accepted → Bool
+hasEnded clock Accepted.Nothing = false
+hasEnded clock (Accepted.One l) = leb (l .end .0) clock
+
+-- 'keep the reply with the highest accepted ballot, the earlier one at a tie'
+unfoldable pub higherOf : Accepted → Accepted → Accepted
+higherOf Accepted.Nothing reply = reply
+higherOf (Accepted.One a) Accepted.Nothing = Accepted.One a
+higherOf (Accepted.One a) (Accepted.One b) = cond (isAbove (b .ballot) (a .ballot)) (Accepted.One b) (Accepted.One a)
+
+-- 'when the count reaches a majority': the set is one, and was none before
+unfoldable pub acts : ℕ → ℕ → ℕ → Bool
+acts n before after = cond (majority n before) false (majority n after)
+
+-- 'the host's own, ending at ballot tick + duration + S': its holder's end is ballot tick + duration
+abbrev pub ownEnd : ℕ → ℕ → ℕ → KeepersEnd
+ownEnd tick duration spread = keepersOf (record { 0 = tick + duration }) spread
+
+abbrev pub claim : ℕ → KeepersEnd → Claim
+claim o e = record { owner = o; end = e }
+
+-- 'if no lease was kept, or its end has come, the lease is the host's own'; 'if the kept lease is its own, the later of that end and
+-- the kept one'; 'else the kept lease unchanged'
+unfoldable pub claimOf : ℕ → ℕ → KeepersEnd → Accepted → Claim
+claimOf number clock own Accepted.Nothing = claim number own
+claimOf number clock own (Accepted.One l) =
+    cond (leb (l .end .0) clock) (claim number own)
+    (cond (eqb (l .owner) number)
+    (cond (leb (l .end .0) (own .0)) (claim number own) (claim (l .owner) (l .end)))
+    (claim (l .owner) (l .end)))
+
+-- ---- propose request
+
+-- 'its ballot is below the promise'
+unfoldable pub isForbidden : Promised → Ballot → Bool
+isForbidden Promised.Nothing b = false
+isForbidden (Promised.To p) b = isAbove p b
+
+-- not 'if its end is at or below the clock, or its ballot is below the promise'
+unfoldable pub mayAccept : Promised → ℕ → Lease → Bool
+mayAccept p clock l = cond (leb (l .end .0) clock) false (not (isForbidden p (l .ballot)))
+
+-- 'promise that ballot, accept'
+unfoldable pub afterAccept : Lease → Vote
+afterAccept l = record { promised = Promised.To (l .ballot); accepted = Accepted.One l }
+
+-- ---- propose response and learn
+
+-- 'if the keepers' end is above clock + S'
+abbrev pub isNamable : ℕ → ℕ → KeepersEnd → Bool
+isNamable clock spread end = ltb (clock + spread) (end .0)
+
+-- 'naming replaces a named holder only if the new ballot is higher'
+unfoldable pub namedBy : Named → Holder → Named
+namedBy Named.Nobody h = Named.One h
+namedBy (Named.One k) h = cond (isAbove (h .ballot) (k .ballot)) (Named.One h) (Named.One k)

@@ -1,0 +1,264 @@
+// The leaf rules of a host: what is promised, accepted, kept, claimed, named and dropped, and when a round acts. Each is one
+// sentence of document 01, as a free function on small values; the host's methods only put them together.
+ghost use mathlib.Core.Path.{_≡_};
+ghost use Prim.Native.Nat.{_<_, _≤_, _^_};
+ghost use Rattle.message.specs.Message.{lastTick};
+ghost use Rattle.rules.specs.Rules.{mayPromise, isForbidden, mayAccept, acceptedAt, namedAt, hasEnded, waitEnd, ballotAt, isFresh, counts, higherOf, ownEnd, claimOf, acts, isNamable, namedBy, afterAccept, isWaiting};
+use message::Ballot;
+use message::HoldersEnd;
+use message::KeepersEnd;
+use message::Lease;
+
+// The promised ballot, or none.
+pub enum Promised {
+    Nothing,
+    To(Ballot),
+}
+
+// The accepted lease, or none.
+pub enum Accepted {
+    Nothing,
+    One(Lease),
+}
+
+// The tick of the last ballot, or none.
+pub enum LastTick {
+    Never,
+    At(u64),
+}
+
+// A holder as whoever names it has it.
+pub struct Holder {
+    pub ballot: Ballot,
+    pub owner: u8,
+    pub end: HoldersEnd,
+}
+
+// The named holder, or none.
+pub enum Named {
+    Nobody,
+    One(Holder),
+}
+
+// The owner and the end of a lease to propose.
+pub struct Claim {
+    pub owner: u8,
+    pub end: KeepersEnd,
+}
+
+// What an acceptor keeps.
+pub struct Vote {
+    pub promised: Promised,
+    pub accepted: Accepted,
+}
+
+// Whether a host is still waiting after a restart.
+pub fn is_waiting(clock: u64, wait: u64) -> bool
+    ensures { λ r. ⌜ r ≡ isWaiting clock wait ⌝ }
+{
+    clock < wait
+}
+
+// Until when a host waits after a restart.
+pub fn wait_end(clock: u64, longest: u32, spread: u32) -> u64
+    requires { ⌜ clock ≤ lastTick ⌝ }
+    ensures { λ r. ⌜ r ≡ waitEnd clock longest spread ⌝ }
+{
+    clock + longest as u64 + spread as u64
+}
+
+// The accepted lease, unless its end has come.
+pub fn accepted_at(clock: u64, a: Accepted) -> Accepted
+    ensures { λ r. ⌜ r ≡ acceptedAt clock a ⌝ }
+{
+    match a {
+        Accepted::One(l) => {
+            if l.end.0 <= clock {
+                return Accepted::Nothing;
+            }
+            a
+        }
+        Accepted::Nothing => a,
+    }
+}
+
+// The named holder, unless its end has come.
+pub fn named_at(clock: u64, m: Named) -> Named
+    ensures { λ r. ⌜ r ≡ namedAt clock m ⌝ }
+{
+    match m {
+        Named::One(h) => {
+            if h.end.0 <= clock {
+                return Named::Nobody;
+            }
+            m
+        }
+        Named::Nobody => m,
+    }
+}
+
+// The ballot of a start.
+pub fn ballot_at(clock: u64, number: u8) -> Ballot
+    ensures { λ r. ⌜ r ≡ ballotAt clock number ⌝ }
+{
+    Ballot {
+        tick: clock,
+        host: number,
+    }
+}
+
+// Whether a clock is above the last ballot's tick.
+pub fn is_fresh(last: LastTick, clock: u64) -> bool
+    ensures { λ r. ⌜ r ≡ isFresh last clock ⌝ }
+{
+    match last {
+        LastTick::At(t) => t < clock,
+        LastTick::Never => true,
+    }
+}
+
+// Whether a prepare request is promised.
+pub fn may_promise(p: Promised, ballot: Ballot) -> bool
+    ensures { λ r. ⌜ r ≡ mayPromise p ballot ⌝ }
+{
+    match p {
+        Promised::To(b) => ballot.above(b),
+        Promised::Nothing => true,
+    }
+}
+
+// Whether a ballot is below the promise.
+pub fn is_forbidden(p: Promised, ballot: Ballot) -> bool
+    ensures { λ r. ⌜ r ≡ isForbidden p ballot ⌝ }
+{
+    match p {
+        Promised::To(b) => b.above(ballot),
+        Promised::Nothing => false,
+    }
+}
+
+// Whether a propose request is accepted.
+pub fn may_accept(p: Promised, clock: u64, lease: Lease) -> bool
+    ensures { λ r. ⌜ r ≡ mayAccept p clock lease ⌝ }
+{
+    if lease.end.0 <= clock {
+        return false;
+    }
+    !is_forbidden(p, lease.ballot)
+}
+
+// What an acceptor keeps of a proposal that it accepts.
+pub fn after_accept(lease: Lease) -> Vote
+    ensures { λ r. ⌜ r ≡ afterAccept lease ⌝ }
+{
+    let ballot = lease.ballot;
+    Vote {
+        promised: Promised::To(ballot),
+        accepted: Accepted::One(lease),
+    }
+}
+
+// Whether a reply carries a lease whose end has come.
+pub fn has_ended(clock: u64, a: Accepted) -> bool
+    ensures { λ r. ⌜ r ≡ hasEnded clock a ⌝ }
+{
+    match a {
+        Accepted::One(l) => l.end.0 <= clock,
+        Accepted::Nothing => false,
+    }
+}
+
+// Whether a reply from this host counts: it was not counted yet.
+pub fn counts_reply(replied: u16, sender: u8) -> bool
+    requires { ⌜ sender < 16 ⌝ }
+    ensures { λ r. ⌜ r ≡ counts replied sender ⌝ }
+{
+    !quorum::has(replied, sender)
+}
+
+// The reply with the highest accepted ballot, the earlier one at a tie.
+pub fn higher_of(kept: Accepted, reply: Accepted) -> Accepted
+    ensures { λ r. ⌜ r ≡ higherOf kept reply ⌝ }
+{
+    match kept {
+        Accepted::Nothing => reply,
+        Accepted::One(a) => match reply {
+            Accepted::Nothing => kept,
+            Accepted::One(b) => {
+                if b.ballot.above(a.ballot) {
+                    return reply;
+                }
+                kept
+            }
+        },
+    }
+}
+
+// Whether a round acts: the reply made the set a majority, and it was none before.
+pub fn acts_on(n: u8, before: u16, after: u16) -> bool
+    ensures { λ r. ⌜ r ≡ acts n before after ⌝ }
+{
+    if quorum::is_majority(n, before) {
+        return false;
+    }
+    quorum::is_majority(n, after)
+}
+
+// The end of a lease of one's own.
+pub fn own_end(tick: u64, duration: u32, spread: u32) -> KeepersEnd
+    requires { ⌜ (tick ≤ lastTick) × (duration ≤ 2 ^ 31) ⌝ }
+    ensures { λ r. ⌜ r ≡ ownEnd tick duration spread ⌝ }
+{
+    HoldersEnd(tick + duration as u64).to_keepers(spread)
+}
+
+// The lease to propose once a majority replied: own is the end that one's own lease would have.
+pub fn claim_of(number: u8, clock: u64, own: KeepersEnd, kept: Accepted) -> Claim
+    ensures { λ r. ⌜ r ≡ claimOf number clock own kept ⌝ }
+{
+    let mine = Claim {
+        owner: number,
+        end: own,
+    };
+    match kept {
+        Accepted::Nothing => mine,
+        Accepted::One(l) => {
+            let end = l.end;
+            if end.0 <= clock {
+                return mine;
+            }
+            if l.owner == number {
+                if end.0 <= own.0 {
+                    return mine;
+                }
+            }
+            Claim {
+                owner: l.owner,
+                end,
+            }
+        }
+    }
+}
+
+// Whether a chosen lease is named: its keepers' end is above clock + S.
+pub fn is_namable(clock: u64, spread: u32, end: KeepersEnd) -> bool
+    requires { ⌜ clock ≤ lastTick ⌝ }
+    ensures { λ r. ⌜ r ≡ isNamable clock spread end ⌝ }
+{
+    clock + (spread as u64) < end.0
+}
+
+// The named holder after naming: replaced only by a higher ballot.
+pub fn named_by(m: Named, holder: Holder) -> Named
+    ensures { λ r. ⌜ r ≡ namedBy m holder ⌝ }
+{
+    match m {
+        Named::Nobody => Named::One(holder),
+        Named::One(h) => {
+            if holder.ballot.above(h.ballot) {
+                return Named::One(holder);
+            }
+            m
+        }
+    }
+}
