@@ -16,7 +16,7 @@ use Rattle.state.specs.declared.Proposing.{Proposing}
 use Rattle.state.specs.declared.Round.{Round}
 use Rattle.host.specs.declared.Host.{Host}
 use Rattle.host.specs.declared.Stepped.{Stepped}
-use Rattle.host.specs.Steps.{quiet, holderOf, learning, chosen, voted, onVote, onProposed, onProposeResponse, onMessage, acted, messageRefusal, messageStep, withNamed, votesIn, isVote, namedByMajority}
+use Rattle.host.specs.Steps.{quiet, holderOf, learning, chosen, voted, onVote, onProposed, onProposeResponse, onMessage, acted, messageRefusal, messageStep, withNamed, decides, isDecidingVote, namedByMajority}
 
 -- a waiting host does nothing
 pub waiting-quiet : (s : Settings) (h : Host) (m : Message) → isWaiting (h .clock) (h .wait) ≡ true → acted s h m ≡ quiet h
@@ -33,8 +33,8 @@ learning-host s h p after = go (eqb (s .n) 1) _ refl
     go false x e = e
 
 -- the proposing round of a host, if its majority has named by this vote
-named-round : (s : Settings) (h : Host) (r : Round) (m : Head) → votesIn s h r m ≡ true → (p : Proposing) × (r ≡ Round.Proposing p) × (onProposeResponse s h r m .host ≡ withNamed h Round.Idle (namedBy (h .state .named) (holderOf s p)))
-unfolding votesIn onProposeResponse onProposed onVote chosen voted
+named-round : (s : Settings) (h : Host) (r : Round) (m : Head) → decides s h r m ≡ true → (p : Proposing) × (r ≡ Round.Proposing p) × (onProposeResponse s h r m .host ≡ withNamed h Round.Idle (namedBy (h .state .named) (holderOf s p)))
+unfolding decides onProposeResponse onProposed onVote chosen voted
 named-round s h Round.Idle m e = true-false (sym e)
 named-round s h (Round.Asking a) m e = true-false (sym e)
 named-round s h (Round.Proposing p) m e =
@@ -45,8 +45,8 @@ named-round s h (Round.Proposing p) m e =
     let q3 = both v k (q2 .1) in
     (p, refl, rw (q1 .0, q2 .0, q3 .0, q3 .1) (learning-host s h p (withNamed h Round.Idle (namedBy (h .state .named) (holderOf s p)))))
 
-voted-message : (s : Settings) (h : Host) (m : Message) → isVote s h m ≡ true → (p : Proposing) × (h .state .round ≡ Round.Proposing p) × (onMessage s h m .host ≡ withNamed h Round.Idle (namedBy (h .state .named) (holderOf s p)))
-unfolding isVote onMessage
+voted-message : (s : Settings) (h : Host) (m : Message) → isDecidingVote s h m ≡ true → (p : Proposing) × (h .state .round ≡ Round.Proposing p) × (onMessage s h m .host ≡ withNamed h Round.Idle (namedBy (h .state .named) (holderOf s p)))
+unfolding isDecidingVote onMessage
 voted-message s h (ProposeResponse m) e = named-round s h (h .state .round) m e
 voted-message s h (PrepareRequest m) e = true-false (sym e)
 voted-message s h (PrepareResponseEmpty m) e = true-false (sym e)
@@ -63,7 +63,7 @@ pub majority-names : (s : Settings) (h : Host) (m : Message) → namedByMajority
     → (p : Proposing) × (h .state .round ≡ Round.Proposing p) × (messageStep s h m .host ≡ withNamed h Round.Idle (namedBy (h .state .named) (holderOf s p)))
 unfolding namedByMajority
 majority-names s h m e =
-    let q1 = both (eqb (messageRefusal s h m) done) (not (isWaiting (h .clock) (h .wait)) && isVote s h m) e in
-    let q2 = both (not (isWaiting (h .clock) (h .wait))) (isVote s h m) (q1 .1) in
+    let q1 = both (eqb (messageRefusal s h m) done) (not (isWaiting (h .clock) (h .wait)) && isDecidingVote s h m) e in
+    let q2 = both (not (isWaiting (h .clock) (h .wait))) (isDecidingVote s h m) (q1 .1) in
     let v = voted-message s h m (q2 .1) in
     (v .0, v .1, ap (λ (x : Stepped). x .host) (step-message s h m (q1 .0) (not-true (isWaiting (h .clock) (h .wait)) (q2 .0))) ∙ v .2)

@@ -1,7 +1,7 @@
 -- The steps of one host, in document 01's order: what is refused and what is done, apart. Assumes nothing.
 use Prim.Native.Nat.{ℕ, _+_, _^_}
 use mathlib.Core.Bool.{Bool, false, cond, not, _&&_}
-use mathlib.Core.List.{List, [], _∷_}
+use mathlib.Core.List.{[], _∷_}
 use lib.Dec.{ltb, leb, eqb}
 use Rattle.base.specs.Refusals.{done, unless, firstOf, refusedCell, refusedParty, refusedWaiting, refusedSameTick, refusedDuration, refusedClock}
 use Rattle.quorum.specs.Sets.{single, withHost, everyone, others}
@@ -45,7 +45,7 @@ hostOk s h =
 
 -- ---- parts of a step
 
--- nothing is changed and nothing sent
+-- this host with this answer, and nothing sent: of a refusal, the host that was handed in
 abbrev pub refused : ℕ → Host → Stepped
 refused a h = record { answer = a; host = h; sent = Sent.Nothing; receivers = 0 }
 
@@ -87,6 +87,7 @@ headFrom h b = record { sender = h .number; target = anyTarget; ballot = b }
 unfoldable pub advanceRefusal : Settings → Host → ℕ → ℕ
 advanceRefusal s h d = firstOf (unless (hostOk s h) refusedCell ∷ unless (not (eqb d 0)) refusedClock ∷ unless (leb (h .clock + d) lastTick) refusedClock ∷ [])
 
+-- 'the clock .. go up by d. A host whose clock moved then drops an accepted lease or named holder whose end is at or below its clock'
 unfoldable pub advanced : Host → ℕ → Host
 advanced h d = record {
   number = h .number;
@@ -193,6 +194,7 @@ onReply s h a m reply =
     (quiet h))
     (quiet h)
 
+-- a response to a host that asks nothing is nothing
 unfoldable pub onPrepareResponse : Settings → Host → Round → Head → Accepted → Stepped
 onPrepareResponse s h Round.Idle m reply = quiet h
 onPrepareResponse s h (Round.Asking a) m reply = onReply s h a m reply
@@ -212,10 +214,11 @@ onProposeRequest h m =
 
 -- ---- propose response
 
+-- 'count it'
 unfoldable pub voted : Proposing → ℕ → Proposing
 voted p sender = record { ballot = p .ballot; owner = p .owner; end = p .end; replied = withHost (p .replied) sender }
 
--- the holder that a chosen lease names: its end is S earlier
+-- the holder that a chosen lease names: 'the holder's end is S ticks earlier'
 abbrev pub holderOf : Settings → Proposing → Holder
 holderOf s p = record { ballot = p .ballot; owner = p .owner; end = holdersOf (p .end) (s .spread) }
 
@@ -243,6 +246,7 @@ onProposed s h p m =
     (cond (counts (p .replied) (m .sender)) (onVote s h (p .replied) (voted p (m .sender))) (quiet h))
     (quiet h)
 
+-- a response to a host that proposes nothing is nothing
 unfoldable pub onProposeResponse : Settings → Host → Round → Head → Stepped
 onProposeResponse s h Round.Idle m = quiet h
 onProposeResponse s h (Round.Asking a) m = quiet h
@@ -250,6 +254,7 @@ onProposeResponse s h (Round.Proposing p) m = onProposed s h p m
 
 -- ---- learn
 
+-- 'a named holder (ballot, owner, holder's end)'
 abbrev pub learned : LearnedLease → Holder
 learned m = record { ballot = m .head .ballot; owner = m .owner; end = m .end }
 
@@ -257,7 +262,7 @@ learned m = record { ballot = m .head .ballot; owner = m .owner; end = m .end }
 unfoldable pub onLearn : Host → LearnedLease → Stepped
 onLearn h m = cond (leb (m .end .0) (h .clock)) (quiet h) (quiet (withNamed h (h .state .round) (namedBy (h .state .named) (learned m))))
 
--- ---- a message, by its kind: 1, then as writing to its target refuses it, then 7 where its target is another host
+-- ---- a message, by its kind
 
 unfoldable pub onMessage : Settings → Host → Message → Stepped
 onMessage s h (PrepareRequest m) = onPrepareRequest h m
@@ -271,6 +276,7 @@ onMessage s h (Learn m) = onLearn h m
 unfoldable pub acted : Settings → Host → Message → Stepped
 acted s h m = cond (isWaiting (h .clock) (h .wait)) (quiet h) (onMessage s h m)
 
+-- 1, then as writing to its target refuses it, then 7 where its target is another host
 unfoldable pub messageRefusal : Settings → Host → Message → ℕ
 messageRefusal s h m = firstOf (unless (hostOk s h) refusedCell ∷ faultOf (s .n) (numbersOf m) ∷ unless (eqb (numbersOf m .target) (h .number)) refusedParty ∷ [])
 
@@ -280,21 +286,21 @@ messageStep s h m = stepWith (messageRefusal s h m) h (acted s h m)
 -- ---- named by its own majority
 
 -- the vote that makes a proposing round's set a majority, while its lease can still be named
-unfoldable pub votesIn : Settings → Host → Round → Head → Bool
-votesIn s h Round.Idle m = false
-votesIn s h (Round.Asking a) m = false
-votesIn s h (Round.Proposing p) m =
+unfoldable pub decides : Settings → Host → Round → Head → Bool
+decides s h Round.Idle m = false
+decides s h (Round.Asking a) m = false
+decides s h (Round.Proposing p) m =
     isSame (p .ballot) (m .ballot)
     && (counts (p .replied) (m .sender) && (acts (s .n) (p .replied) (withHost (p .replied) (m .sender)) && isNamable (h .clock) (s .spread) (p .end)))
 
-unfoldable pub isVote : Settings → Host → Message → Bool
-isVote s h (ProposeResponse m) = votesIn s h (h .state .round) m
-isVote s h (PrepareRequest m) = false
-isVote s h (PrepareResponseEmpty m) = false
-isVote s h (PrepareResponseLease m) = false
-isVote s h (ProposeRequest m) = false
-isVote s h (Learn m) = false
+unfoldable pub isDecidingVote : Settings → Host → Message → Bool
+isDecidingVote s h (ProposeResponse m) = decides s h (h .state .round) m
+isDecidingVote s h (PrepareRequest m) = false
+isDecidingVote s h (PrepareResponseEmpty m) = false
+isDecidingVote s h (PrepareResponseLease m) = false
+isDecidingVote s h (ProposeRequest m) = false
+isDecidingVote s h (Learn m) = false
 
 -- the step is done, the host is not waiting, and its own majority names a holder by it
 unfoldable pub namedByMajority : Settings → Host → Message → Bool
-namedByMajority s h m = eqb (messageRefusal s h m) done && (not (isWaiting (h .clock) (h .wait)) && isVote s h m)
+namedByMajority s h m = eqb (messageRefusal s h m) done && (not (isWaiting (h .clock) (h .wait)) && isDecidingVote s h m)

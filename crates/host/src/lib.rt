@@ -6,8 +6,7 @@ ghost use Prim.Native.Nat.{_+_, _<_, _≤_, _^_};
 ghost use Rattle.message.specs.declared.Message.the-variants.{PrepareRequest, PrepareResponseEmpty, PrepareResponseLease, ProposeRequest, ProposeResponse, Learn};
 ghost use Rattle.message.specs.Message.{lastTick, numbersOf};
 ghost use Rattle.message.specs.Faults.{faultOf};
-ghost use Rattle.state.specs.Limits.{askingOk};
-ghost use Rattle.host.specs.Steps.{hostOk, refused, quiet, sending, withState, withRound, withVote, withNamed, headFrom, advanced, advanceOf, blankState, restarted, restartOf, asking, started, startOf, responseWith, onPrepareRequest, counted, proposing, claimed, asked, onReply, onPrepareResponse, leaseOf, onProposeRequest, voted, holderOf, learning, chosen, onVote, onProposed, onProposeResponse, learned, onLearn, onMessage, acted, messageRefusal, messageStep};
+ghost use Rattle.host.specs.Steps.{hostOk, refused, quiet, sending, withState, withRound, withVote, withNamed, headFrom, advanced, advanceOf, restarted, restartOf, asking, started, startOf, responseWith, onPrepareRequest, counted, proposing, claimed, asked, onReply, onPrepareResponse, onProposeRequest, voted, learning, chosen, onVote, onProposed, onProposeResponse, onLearn, onMessage, acted, messageStep};
 use base::DONE;
 use base::REFUSED_CELL;
 use base::REFUSED_CLOCK;
@@ -37,6 +36,9 @@ use state::State;
 
 // The last end of a wait, 2^48 + 2^32.
 pub const LAST_WAIT: u64 = 281479271677952;
+
+// The target of a message that is handed to a set of receivers: it is not looked at.
+const ANY_TARGET: u8 = 0;
 
 pub struct Host {
     pub number: u8,
@@ -68,7 +70,7 @@ pub fn host_ok(s: Settings, h: Host) -> bool
             & ((h.clock <= LAST_TICK) & ((h.wait <= LAST_WAIT) & state::state_ok(s, h.number, t))))
 }
 
-// Nothing is changed and nothing sent.
+// This host with an answer, and nothing sent.
 fn refused_with(answer: u8, host: Host) -> Stepped
     ensures { λ r. ⌜ r ≡ refused answer host ⌝ }
 {
@@ -207,7 +209,7 @@ impl Host {
     {
         Head {
             sender: self.number,
-            target: 0,
+            target: ANY_TARGET,
             ballot,
         }
     }

@@ -3,8 +3,6 @@
 mod cast;
 mod show;
 
-use host::Host;
-use host::Stepped;
 use message::Ballot;
 
 // P1: start at 104: 9; at 105: 0.
@@ -58,8 +56,12 @@ fn renewed() {
 
 // P9: propose with end equal to the clock: nothing; one more: accepted.
 fn ends() {
-    show::sent(b"P9 propose with end 120 at 120", cast::proposed(120));
-    show::sent(b"P9 propose with end 121 at 120", cast::proposed(121));
+    let at_once = cast::proposed(120);
+    show::sent(b"P9 propose with end 120 at 120", at_once);
+    show::accepted(b"  accepted", at_once);
+    let later = cast::proposed(121);
+    show::sent(b"P9 propose with end 121 at 120", later);
+    show::accepted(b"  accepted", later);
 }
 
 // Whether k of n hosts are a majority.

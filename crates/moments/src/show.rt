@@ -2,6 +2,7 @@
 use host::Sent;
 use host::Stepped;
 use message::Message;
+use rules::Accepted;
 
 pub fn answer(label: &[u8], r: Stepped) {
     print::word(label);
@@ -52,4 +53,22 @@ pub fn sent(label: &[u8], r: Stepped) {
     print::word(b" receivers");
     print::number(r.receivers as u64);
     print::line_end();
+}
+
+// The end of the lease that the host has accepted, or none.
+pub fn accepted(label: &[u8], r: Stepped) {
+    print::word(label);
+    let h = r.host;
+    let t = h.state;
+    let held = t.accepted;
+    match held {
+        Accepted::Nothing => print::word(b": none"),
+        Accepted::One(l) => lease_end(l.end.0),
+    }
+    print::line_end();
+}
+
+fn lease_end(end: u64) {
+    print::word(b": end");
+    print::number(end);
 }

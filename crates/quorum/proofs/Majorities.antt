@@ -2,15 +2,15 @@
 -- for each host. Assumes nothing.
 use mathlib.Core.Path.{_≡_, refl, sym, ap, ap₂, _∙_, subst}
 use mathlib.Core.Bool.{true}
-use Prim.Native.Nat.{ℕ, zero, suc, _+_, _*_, _/_, _%_, _^_, _<_, max}
-use native.Mathlib.Nat.{one-mul, add-comm, mod-lt, mod-eq-of-lt, not-suc-le-zero, add-zero}
+use Prim.Native.Nat.{ℕ, zero, suc, _+_, _-_, _*_, _/_, _%_, _^_, _<_, max, _≤_}
+use native.Mathlib.Nat.{add-mul, one-mul, add-comm, mod-lt, mod-eq-of-lt, not-suc-le-zero, add-zero}
 use native.Mathlib.Numerals.{one-add}
 use native.Mathlib.Decide.{decLt, ℕ-discrete}
 use native.Mathlib.Omega.{arith}
 use lib.Arith.{digits-mod}
 use lib.Bits.{bitOr, or-shr, or-step, or-lt}
-use lib.Count.{ones, ones-cat}
-use lib.Pow.{pow-pos, pow-lt, mod-pow-add}
+use lib.Count.{ones, ones-cat, ones-ones}
+use lib.Pow.{pow-pos, pow-lt, pow-add, mod-pow-add, ones-split, ones-lt, high}
 use borrow.Author.Tests.{leb-true}
 use Rattle.quorum.specs.Sets.{bit, single, withHost, everyone, others, size, majority}
 use Rattle.quorum.proofs.Laws.{bit-le, single-same, single-other}
@@ -63,7 +63,7 @@ size-sum s n h = ap ones (sym (mod-eq-of-lt h)) ∙ ones-sum s n
 
 -- ---- two majorities meet
 
--- with a weight for each host: two sets that together weigh more than all share a host that weighs something
+-- with a weight for each host: two sets that together weigh more than all share a host
 pub weighed-meet : (w : ℕ → ℕ) (n s t : ℕ)
     → sum w n < sum (λ i. bit s i * w i) n + sum (λ i. bit t i * w i) n
     → (i : ℕ) × (i < n) × (bit s i ≡ 1) × (bit t i ≡ 1)
@@ -148,3 +148,24 @@ everyone-below n = omega (arith, pow-pos n)
 
 pub others-below : (n h : ℕ) → others n h < 2 ^ n
 others-below n h = omega (arith, pow-pos n)
+
+-- all n hosts are n
+pub size-everyone : (n : ℕ) → size (everyone n) ≡ n
+size-everyone n = ones-ones n
+
+-- a host is not among the others
+pub others-without : (n h : ℕ) → h < n → bit (others n h) h ≡ 0
+others-without n h l =
+    let j : ℕ = n - h - 1 in
+    let e : n ≡ (j + 1) + h = omega arith in
+    let s : everyone n ≡ (2 ^ (j + 1) - 1) * 2 ^ h + (2 ^ h - 1) = ap (λ (k : ℕ). 2 ^ k - 1) e ∙ ones-split (j + 1) h in
+    let d : 2 ^ (j + 1) ≡ 2 * 2 ^ j = pow-add 2 j 1 ∙ omega arith in
+    let p = pow-pos j in
+    let m : (2 ^ (j + 1) - 1) * 2 ^ h ≡ (2 ^ (j + 1) - 2) * 2 ^ h + 2 ^ h = times (2 ^ (j + 1)) (2 ^ h) (omega arith) in
+    let o : others n h ≡ (2 ^ (j + 1) - 2) * 2 ^ h + (2 ^ h - 1) = omega (arith, s, m) in
+    ap (λ (x : ℕ). x / 2 ^ h % 2) o ∙ ap (λ (x : ℕ). x % 2) (high (2 ^ (j + 1) - 2) h (ones-lt h)) ∙ omega (arith, d, p)
+  where
+    times : (a b : ℕ) → 2 ≤ a → (a - 1) * b ≡ (a - 2) * b + b
+    times a b g =
+        let f : a - 1 ≡ (a - 2) + 1 = omega arith in
+        ap (λ (x : ℕ). x * b) f ∙ add-mul (a - 2) 1 b ∙ ap (λ (x : ℕ). (a - 2) * b + x) (one-mul b)

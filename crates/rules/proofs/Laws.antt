@@ -5,7 +5,7 @@ use mathlib.Core.Logic.{_⊎_, inl, inr}
 use Prim.Native.Nat.{ℕ, _+_, _≤_, _<_}
 use native.Mathlib.Omega.{arith}
 use lib.Dec.{ltb, leb, eqb}
-use borrow.Author.Tests.{ltb-true, leb-true, leb-false, eqb-true, not-true, le-ltb, le-leb, lt-leb, eq-eqb, ne-eqb}
+use borrow.Author.Tests.{ltb-true, ltb-false, leb-true, leb-false, eqb-true, eqb-false, not-true, lt-ltb, le-ltb, le-leb, lt-leb, eq-eqb, ne-eqb}
 use Rattle.base.proofs.Tests.{by-test, true-false}
 use Rattle.quorum.specs.Sets.{withHost, majority}
 use Rattle.quorum.proofs.Majorities.{with-same}
@@ -19,7 +19,7 @@ use Rattle.rules.specs.declared.LastTick.{LastTick}
 use Rattle.rules.specs.declared.Holder.{Holder}
 use Rattle.rules.specs.declared.Named.{Named}
 use Rattle.rules.specs.declared.Claim.{Claim}
-use Rattle.rules.specs.Rules.{waitEnd, acceptedAt, namedAt, ballotAt, isFresh, mayPromise, counts, hasEnded, higherOf, acts, ownEnd, claim, claimOf, isForbidden, mayAccept, afterAccept, isNamable, namedBy}
+use Rattle.rules.specs.Rules.{isWaiting, waitEnd, acceptedAt, namedAt, ballotAt, isFresh, mayPromise, counts, hasEnded, higherOf, acts, ownEnd, claim, claimOf, isForbidden, mayAccept, afterAccept, isNamable, namedBy}
 
 -- ---- the order of ballots
 
@@ -60,10 +60,10 @@ one-holder : {a b : Holder} → Named.One a ≡ Named.One b → a ≡ b
 one-holder e = cc
 
 -- an accepted lease that is not dropped has its end to come
-pub dropped : (clock : ℕ) (a : Accepted) (l : Lease) → acceptedAt clock a ≡ Accepted.One l → clock < l .end .0
+pub lease-live : (clock : ℕ) (a : Accepted) (l : Lease) → acceptedAt clock a ≡ Accepted.One l → clock < l .end .0
 unfolding acceptedAt
-dropped clock Accepted.Nothing l e = true-false (cc)
-dropped clock (Accepted.One k) l e = go (leb (k .end .0) clock) refl e
+lease-live clock Accepted.Nothing l e = true-false (cc)
+lease-live clock (Accepted.One k) l e = go (leb (k .end .0) clock) refl e
   where
     go : (t : Bool) → leb (k .end .0) clock ≡ t → cond t Accepted.Nothing (Accepted.One k) ≡ Accepted.One l → clock < l .end .0
     go true p q = true-false (cc)
@@ -75,10 +75,10 @@ unfolding acceptedAt
 lease-stays clock l h = rw (lt-leb (l .end .0) clock h)
 
 -- a named holder that is not dropped has its end to come
-pub named-dropped : (clock : ℕ) (m : Named) (h : Holder) → namedAt clock m ≡ Named.One h → clock < h .end .0
+pub holder-live : (clock : ℕ) (m : Named) (h : Holder) → namedAt clock m ≡ Named.One h → clock < h .end .0
 unfolding namedAt
-named-dropped clock Named.Nobody h e = true-false (cc)
-named-dropped clock (Named.One k) h e = go (leb (k .end .0) clock) refl e
+holder-live clock Named.Nobody h e = true-false (cc)
+holder-live clock (Named.One k) h e = go (leb (k .end .0) clock) refl e
   where
     go : (t : Bool) → leb (k .end .0) clock ≡ t → cond t Named.Nobody (Named.One k) ≡ Named.One h → clock < h .end .0
     go true p q = true-false (cc)
@@ -235,3 +235,64 @@ named-higher k h = go (isAbove (h .ballot) (k .ballot)) refl
         ⊎ ((isAbove (h .ballot) (k .ballot) ≡ true) × (cond t (Named.One h) (Named.One k) ≡ Named.One h))
     go true p = inr (p, refl)
     go false p = inl (p, refl)
+
+-- ---- more of the order of ballots, of replies, claims, holders and waiting
+
+-- two ballots of which neither is above the other are the same
+pub above-neither : (a b : Ballot) → isAbove a b ≡ false → isAbove b a ≡ false → (a .tick ≡ b .tick) × (a .host ≡ b .host)
+unfolding isAbove
+above-neither a b p q = go (eqb (a .tick) (b .tick)) refl p q
+  where
+    go : (t : Bool) → eqb (a .tick) (b .tick) ≡ t → cond t (ltb (b .host) (a .host)) (ltb (b .tick) (a .tick)) ≡ false
+        → cond (eqb (b .tick) (a .tick)) (ltb (a .host) (b .host)) (ltb (a .tick) (b .tick)) ≡ false → (a .tick ≡ b .tick) × (a .host ≡ b .host)
+    go true e p q =
+        let s = eqb-true (a .tick) (b .tick) e in
+        let r = rw (eq-eqb (b .tick) (a .tick) (sym s)) at q in
+        (s, omega (arith, ltb-false (b .host) (a .host) p, ltb-false (a .host) (b .host) r))
+    go false e p q =
+        let d = eqb-false (a .tick) (b .tick) e in
+        let r = rw (ne-eqb (b .tick) (a .tick) (λ s. d (sym s))) at q in
+        absurd (d (omega (arith, ltb-false (b .tick) (a .tick) p, ltb-false (a .tick) (b .tick) r)))
+
+-- a reply is kept where nothing was, and an empty reply forgets nothing
+pub higher-first : (reply : Accepted) → higherOf Accepted.Nothing reply ≡ reply
+unfolding higherOf
+higher-first reply = refl
+
+pub higher-empty : (kept : Accepted) → higherOf kept Accepted.Nothing ≡ kept
+unfolding higherOf
+higher-empty Accepted.Nothing = refl
+higher-empty (Accepted.One l) = refl
+
+-- of two leases one is kept
+pub higher-one-of : (a b : Lease) → (higherOf (Accepted.One a) (Accepted.One b) ≡ Accepted.One a) ⊎ (higherOf (Accepted.One a) (Accepted.One b) ≡ Accepted.One b)
+unfolding higherOf
+higher-one-of a b = go (isAbove (b .ballot) (a .ballot))
+  where
+    go : (t : Bool) → (cond t (Accepted.One b) (Accepted.One a) ≡ Accepted.One a) ⊎ (cond t (Accepted.One b) (Accepted.One a) ≡ Accepted.One b)
+    go true = inr refl
+    go false = inl refl
+
+-- a claim's end is one's own lease's or the kept one's, and no later than both
+pub claim-end : (number clock : ℕ) (own : KeepersEnd) (l : Lease) → (claimOf number clock own (Accepted.One l) .end ≡ own) ⊎ (claimOf number clock own (Accepted.One l) .end ≡ l .end)
+unfolding claimOf
+claim-end number clock own l = go (leb (l .end .0) clock) (eqb (l .owner) number) (leb (l .end .0) (own .0))
+  where
+    go : (a b c : Bool) → (cond a (claim number own) (cond b (cond c (claim number own) (claim (l .owner) (l .end))) (claim (l .owner) (l .end))) .end ≡ own)
+        ⊎ (cond a (claim number own) (cond b (cond c (claim number own) (claim (l .owner) (l .end))) (claim (l .owner) (l .end))) .end ≡ l .end)
+    go true b c = inl refl
+    go false true true = inl refl
+    go false true false = inr refl
+    go false false c = inr refl
+
+-- a holder whose end is to come is not dropped
+pub holder-stays : (clock : ℕ) (h : Holder) → clock < h .end .0 → namedAt clock (Named.One h) ≡ Named.One h
+unfolding namedAt
+holder-stays clock h e = rw (lt-leb (h .end .0) clock e)
+
+-- a host waits while its clock is below the end of its wait, and no longer
+pub waits : (clock wait : ℕ) → clock < wait → isWaiting clock wait ≡ true
+waits clock wait e = lt-ltb clock wait e
+
+pub waits-no-longer : (clock wait : ℕ) → wait ≤ clock → isWaiting clock wait ≡ false
+waits-no-longer clock wait e = le-ltb clock wait e

@@ -73,7 +73,8 @@ pub fn accepted_at(clock: u64, a: Accepted) -> Accepted
 {
     match a {
         Accepted::One(l) => {
-            if l.end.0 <= clock {
+            let ended = l.end.0 <= clock;
+            if ended {
                 return Accepted::Nothing;
             }
             a
@@ -88,7 +89,8 @@ pub fn named_at(clock: u64, m: Named) -> Named
 {
     match m {
         Named::One(h) => {
-            if h.end.0 <= clock {
+            let ended = h.end.0 <= clock;
+            if ended {
                 return Named::Nobody;
             }
             m

@@ -28,6 +28,7 @@ settingsOk s = cellFits (s .n) && (leb (s .longest) lastLongest && ltb (s .sprea
 unfoldable pub durationOk : Settings → ℕ → Bool
 durationOk s d = leb (d + s .spread) (s .longest)
 
+-- 'any number in it is above those given here .., a host number or set reaches n': of each part of a host
 unfoldable pub ballotOk : ℕ → Ballot → Bool
 ballotOk n b = leb (b .tick) lastTick && ltb (b .host) n
 

@@ -1,4 +1,3 @@
-use borrow.Author.Tests.{le-leb, lt-leb}
 use Rattle.rules.specs.Rules.{acceptedAt}
 use borrow.Author.Needs.{needs}
 use Rattle.rules.proofs.accepted_at.Statement.{statement}
@@ -9,14 +8,14 @@ enum-known-a c = search needs
 
 returns : tie.Need-returns
 unfolding acceptedAt
-returns c = rw (c .before .before .before .a .given .1, le-leb _ _ (c .if1 .taken))
+returns c = rw (c .before .before .before .a .given .1, c .if1 .taken)
 
 enum-told : tie.Need-enum-told
 enum-told c = search needs
 
 returns-2 : tie.Need-returns-2
 unfolding acceptedAt
-returns-2 c = rw (c .before .before .before .a .given .1, lt-leb _ _ (c .if1 .left))
+returns-2 c = rw (c .before .before .before .a .given .1, c .if1 .left)
 
 returns-3 : tie.Need-returns-3
 unfolding acceptedAt
