@@ -4,7 +4,8 @@
  * byte outside what was lent is touched.
  *
  * All of it is tried twice: with what is lent to a call at the end of a page,
- * and at the start of one. The pages before and after cannot be touched.
+ * and at the start of one. The pages before and after cannot be touched, and on
+ * the side where the page goes on, guard bytes must stay as they were.
  *
  * With the argument `small` it tries fewer values of each, once, for a run
  * under valgrind. What is lent is then a heap block of exactly its size, and
@@ -30,6 +31,7 @@ enum {
     ROOM = LEASE_FRAME_LONGEST_SET + 1,
     AFTER = 2,              /* bytes that follow a frame */
     PAGE = 4096,
+    GUARD = 64,             /* bytes beside those lent, where their page goes on */
     FILL = 0xA5
 };
 
@@ -90,6 +92,12 @@ static uint8_t *page_of(enum part part)
     return pages[part];
 }
 
+/* The guard bytes beside those lent, in the same page. */
+static uint8_t *guard_of(uint8_t *lent, size_t size)
+{
+    return placement == PAGE_END ? lent - GUARD : lent + size;
+}
+
 /* Lends so many bytes: filled in a page, unset on the heap. */
 static void *lend(enum part part, size_t size)
 {
@@ -99,13 +107,22 @@ static void *lend(enum part part, size_t size)
             fail("no memory");
         return block;
     }
-    return memset(page_of(part) + (placement == PAGE_END ? PAGE - size : 0), FILL, size);
+    uint8_t *lent = page_of(part) + (placement == PAGE_END ? PAGE - size : 0);
+    memset(guard_of(lent, size), FILL, GUARD);
+    return memset(lent, FILL, size);
 }
 
-static void take_back(void *lent)
+static void take_back(void *lent, size_t size)
 {
-    if (placement == HEAP)
+    if (placement == HEAP) {
         free(lent);
+        return;
+    }
+    const uint8_t *guard = guard_of(lent, size);
+    for (int i = 0; i < GUARD; i++) {
+        if (guard[i] != FILL)
+            fail("a guard byte was changed");
+    }
 }
 
 /* How many of those lent can be compared after a call that writes the first `written`. */
@@ -149,9 +166,9 @@ static void expect_read(const char *what, uint8_t n, const uint8_t *bytes, size_
     }
     if (memcmp(lent, bytes, count) != 0)
         fail("%s: reading changed the bytes", what);
-    take_back(lent);
-    take_back(given);
-    take_back(length);
+    take_back(lent, count);
+    take_back(given, sizeof expected);
+    take_back(length, sizeof *length);
 }
 
 static size_t lay_each(const uint64_t *numbers, uint16_t receivers, uint8_t *out)
@@ -192,8 +209,8 @@ static void expect_write(const char *what, uint8_t n, const uint64_t *numbers,
                     (unsigned long long)numbers[LEASE_FRAME_AT_KIND], room,
                     i, given[i], expected[i]);
     }
-    take_back(given);
-    take_back(length);
+    take_back(given, room);
+    take_back(length, sizeof *length);
 }
 
 /* Writes to the target, and to the set of the target alone. */
@@ -303,8 +320,8 @@ static void no_bytes(const struct sample *sample)
     *length = SIZE_MAX;
     answer = write_message_to(lease_frame_write_to, N, numbers, 0, NULL, 0, length);
     compare_result("writing no frame to NULL", numbers, answer, LEASE_FRAME_DONE, *length, 0);
-    take_back(given);
-    take_back(length);
+    take_back(given, sizeof sample->numbers);
+    take_back(length, sizeof *length);
 }
 
 /* P11 and P12 of the moments worth fixing. */
