@@ -5,7 +5,8 @@ use mathlib.Core.List.{List, [], _∷_, _++_}
 use Prim.Native.Nat.{ℕ}
 use native.Mathlib.Omega.{arith}
 use lib.Dec.{eqb}
-use Rattle.base.specs.Refusals.{Refusal, allHold, answer}
+use borrow.Author.Tests.{eqb-true, eqb-false}
+use Rattle.base.specs.Refusals.{done, Refusal, allHold, answer, unless, firstOf}
 
 -- a result that a contract gives as x, and a test found to be y
 pub told : {A : Type 0} {r x y : A} → r ≡ x → r ≡ y → x ≡ y
@@ -52,3 +53,22 @@ answer-passed r rs h e = go (allHold (r .tests)) (answer rs) (r .number) h e
     go : (b : Bool) (a k : ℕ) → eqb k 0 ≡ false → cond b a k ≡ 0 → (b ≡ true) × (a ≡ 0)
     go true a k h e = (refl, e)
     go false a k h e = true-false (sym (ap (λ (x : ℕ). eqb x 0) e) ∙ h)
+
+-- ---- answers that name no field
+
+-- where a list refuses nothing, its first number is 0, and the rest refuse nothing
+pub first-passed : (k : ℕ) (ks : List ℕ) → firstOf (k ∷ ks) ≡ done → (k ≡ done) × (firstOf ks ≡ done)
+unfolding firstOf
+first-passed k ks e = go (eqb k done) refl e
+  where
+    go : (b : Bool) → eqb k done ≡ b → cond b (firstOf ks) k ≡ done → (k ≡ done) × (firstOf ks ≡ done)
+    go true p q = (eqb-true k done p, q)
+    go false p q = absurd (eqb-false k done p q)
+
+-- the first test holds, and the rest refuse nothing
+pub unless-passed : (b : Bool) (k : ℕ) (ks : List ℕ) → eqb k done ≡ false → firstOf (unless b k ∷ ks) ≡ done → (b ≡ true) × (firstOf ks ≡ done)
+unless-passed b k ks n e = let p = first-passed (unless b k) ks e in (go b (p .0), p .1)
+  where
+    go : (b : Bool) → unless b k ≡ done → b ≡ true
+    go true q = refl
+    go false q = absurd (eqb-false k done n q)

@@ -40,6 +40,15 @@ refusedSameTick = 10
 abbrev pub refusedDuration : ℕ
 refusedDuration = 11
 
+abbrev pub refusedSlot : ℕ
+refusedSlot = 12
+
+abbrev pub refusedFull : ℕ
+refusedFull = 13
+
+abbrev pub refusedSpread : ℕ
+refusedSpread = 14
+
 abbrev pub refusedClock : ℕ
 refusedClock = 15
 

@@ -23,4 +23,10 @@ pub const REFUSED_SAME_TICK: u8 = 10;
 
 pub const REFUSED_DURATION: u8 = 11;
 
+pub const REFUSED_SLOT: u8 = 12;
+
+pub const REFUSED_FULL: u8 = 13;
+
+pub const REFUSED_SPREAD: u8 = 14;
+
 pub const REFUSED_CLOCK: u8 = 15;

@@ -9,7 +9,7 @@ use lib.Dec.{leb, eqb}
 use lib.Pow.{pow-pos}
 use borrow.Author.Tests.{ltb-true, leb-true, eqb-true, eqb-false, lt-ltb, le-leb, ne-eqb}
 use Rattle.base.specs.Refusals.{done, unless, firstOf, refusedCell, refusedWaiting, refusedDuration, refusedClock}
-use Rattle.base.proofs.Tests.{by-test}
+use Rattle.base.proofs.Tests.{by-test, first-passed, unless-passed}
 use Rattle.quorum.specs.Sets.{isIn, isBelow, single, withHost, everyone, others}
 use Rattle.quorum.proofs.Majorities.{with-below}
 use Rattle.message.specs.declared.Ballot.{Ballot}
@@ -379,22 +379,6 @@ unfolding acted
 fine-acted s h m i f = by-test (Fine s) (isWaiting (h .clock) (h .wait)) (quiet h) (onMessage s h m) (λ _. fine-quiet s h (out-host s h i)) (λ _. fine-on-message s h m i f)
 
 -- ---- what holds where nothing is refused
-
-first-passed : (k : ℕ) (ks : List ℕ) → firstOf (k ∷ ks) ≡ done → (k ≡ done) × (firstOf ks ≡ done)
-unfolding firstOf
-first-passed k ks e = go (eqb k done) refl e
-  where
-    go : (b : Bool) → eqb k done ≡ b → cond b (firstOf ks) k ≡ done → (k ≡ done) × (firstOf ks ≡ done)
-    go true p q = (eqb-true k done p, q)
-    go false p q = absurd (eqb-false k done p q)
-
--- the first test holds, and the rest refuse nothing
-unless-passed : (b : Bool) (k : ℕ) (ks : List ℕ) → eqb k done ≡ false → firstOf (unless b k ∷ ks) ≡ done → (b ≡ true) × (firstOf ks ≡ done)
-unless-passed b k ks n e = let p = first-passed (unless b k) ks e in (go b (p .0), p .1)
-  where
-    go : (b : Bool) → unless b k ≡ done → b ≡ true
-    go true q = refl
-    go false q = absurd (eqb-false k done n q)
 
 pub done-advance : (s : Settings) (h : Host) (d : ℕ) → advanceRefusal s h d ≡ done → Fine s (quiet (advanced h d))
 unfolding advanceRefusal

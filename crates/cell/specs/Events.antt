@@ -1,0 +1,201 @@
+-- Opening and the seven events, in document 01's order: what is refused and what is done, apart. The host's part of each is the rule
+-- book's. Assumes nothing.
+use Prim.Native.Nat.{ℕ, zero, suc, _+_}
+use mathlib.Core.Bool.{Bool, true, cond, not}
+use mathlib.Core.List.{List, [], _∷_, map}
+use lib.Dec.{ltb, leb, eqb}
+use lib.ListN.{set, take, length}
+use Rattle.base.specs.Refusals.{done, unless, firstOf, refusedCell, refusedHost, refusedTick, refusedFull, refusedSpread, refusedSlot}
+use Rattle.quorum.specs.Sets.{members}
+use Rattle.message.specs.declared.Message.{Message}
+use Rattle.message.specs.Message.{lastTick, numbersOf}
+use Rattle.state.specs.declared.Settings.{Settings}
+use Rattle.state.specs.Limits.{settingsOk}
+use Rattle.host.specs.declared.Host.{Host}
+use Rattle.host.specs.declared.Sent.{Sent}
+use Rattle.host.specs.declared.Stepped.{Stepped}
+use Rattle.host.specs.Steps.{quiet, blankState, advanceRefusal, advanced, restartRefusal, restarted, startRefusal, started, acted}
+use Rattle.slots.specs.declared.Slot.{Slot}
+use Rattle.slots.specs.declared.Content.{Content}
+use Rattle.slots.specs.Slots.{noMessages, slotRefusal, fullRefusal, placed, placedTo, freed}
+use Rattle.cell.specs.declared.Cell.{Cell}
+use Rattle.cell.specs.declared.Event.{Event}
+use Rattle.cell.specs.declared.Event.the-variants.{AdvanceAll, AdvanceOne, Start, Deliver, Lose, Repeat, Restart}
+use Rattle.cell.specs.declared.Answered.{Answered}
+use Rattle.cell.specs.Limits.{blankHost, hostAt, contentAt, cellOk, clocksOk}
+
+-- ---- parts of an event
+
+abbrev pub answered : ℕ → Cell → Answered
+answered a c = record { answer = a; cell = c }
+
+-- what was done where nothing was refused, else what was handed in with the refusal's number
+abbrev pub answerWith : ℕ → Cell → Cell → Answered
+answerWith a c after = cond (eqb a done) (answered done after) (answered a c)
+
+abbrev pub withHosts : Cell → List Host → Cell
+withHosts c hs = record { settings = c .settings; hosts = hs; slots = c .slots }
+
+abbrev pub withSlots : Cell → List Slot → Cell
+withSlots c ss = record { settings = c .settings; hosts = c .hosts; slots = ss }
+
+-- 5: 'a host number of n or more'
+abbrev pub hostRefusal : Cell → ℕ → ℕ
+hostRefusal c h = unless (ltb h (c .settings .n)) refusedHost
+
+-- how many messages a step sends
+unfoldable pub messagesIn : ℕ → Sent → ℕ → ℕ
+messagesIn n Sent.Nothing receivers = 0
+messagesIn n (Sent.One m) receivers = length (members n receivers)
+
+-- 13, for what a step sends
+abbrev pub stepFull : ℕ → List Slot → Stepped → ℕ
+stepFull n ss step = fullRefusal (messagesIn n (step .sent) (step .receivers)) ss
+
+-- the slots with what a step sends
+unfoldable pub sentTo : ℕ → List Slot → Sent → ℕ → List Slot
+sentTo n ss Sent.Nothing receivers = ss
+sentTo n ss (Sent.One m) receivers = placedTo n ss m receivers
+
+-- a host's step carried into the cell, with these slots
+unfoldable pub stepped : Cell → ℕ → List Slot → Stepped → Cell
+stepped c h ss step = record {
+  settings = c .settings;
+  hosts = set (c .hosts) h (step .host);
+  slots = sentTo (c .settings .n) ss (step .sent) (step .receivers);
+}
+
+-- ---- opening: 1, 6
+
+unfoldable pub openingRefusal : Settings → ℕ → ℕ
+openingRefusal s clock = firstOf (unless (settingsOk s) refusedCell ∷ unless (leb clock lastTick) refusedTick ∷ [])
+
+-- 'sets every clock to one given tick, and every host waits as after a restart'
+unfoldable pub newHost : Settings → ℕ → ℕ → Host
+newHost s clock i = cond (ltb i (s .n)) (restarted s (record { number = i; clock = clock; wait = 0; state = blankState })) blankHost
+
+unfoldable pub opened : Settings → ℕ → Cell
+opened s clock = record { settings = s; hosts = map (newHost s clock) (0 ∷ 1 ∷ 2 ∷ 3 ∷ 4 ∷ 5 ∷ 6 ∷ 7 ∷ 8 ∷ []); slots = noMessages }
+
+-- 'a refused opening hands back the cell opened with n 1, T 1, S 0, clock 0'
+abbrev pub leastSettings : Settings
+leastSettings = record { n = 1; longest = 1; spread = 0 }
+
+unfoldable pub openingOf : Settings → ℕ → Answered
+openingOf s clock = answerWith (openingRefusal s clock) (opened leastSettings 0) (opened s clock)
+
+-- ---- advance all by d: 1, 15
+
+-- the first k hosts, each changed
+unfoldable pub eachHost : ℕ → (Host → Host) → List Host → List Host
+eachHost zero f hs = hs
+eachHost (suc k) f [] = []
+eachHost (suc k) f (h ∷ hs) = f h ∷ eachHost k f hs
+
+unfoldable pub advanceAllRefusal : Cell → ℕ → ℕ
+advanceAllRefusal c d = firstOf (unless (cellOk c) refusedCell ∷ map (λ h. advanceRefusal (c .settings) h d) (take (c .settings .n) (c .hosts)))
+
+unfoldable pub advancedAll : Cell → ℕ → Cell
+advancedAll c d = withHosts c (eachHost (c .settings .n) (λ h. advanced h d) (c .hosts))
+
+unfoldable pub advanceAllOf : Cell → ℕ → Answered
+advanceAllOf c d = answerWith (advanceAllRefusal c d) c (advancedAll c d)
+
+-- ---- advance one by d: 1, 5, 15, 14
+
+unfoldable pub advancedOne : Cell → ℕ → ℕ → Cell
+advancedOne c h d = withHosts c (set (c .hosts) h (advanced (hostAt c h) d))
+
+unfoldable pub advanceOneRefusal : Cell → ℕ → ℕ → ℕ
+advanceOneRefusal c h d =
+    firstOf (
+    unless (cellOk c) refusedCell
+    ∷ hostRefusal c h
+    ∷ advanceRefusal (c .settings) (hostAt c h) d
+    ∷ unless (clocksOk (c .settings) (advancedOne c h d .hosts)) refusedSpread
+    ∷ []
+    )
+
+unfoldable pub advanceOneOf : Cell → ℕ → ℕ → Answered
+advanceOneOf c h d = answerWith (advanceOneRefusal c h d) c (advancedOne c h d)
+
+-- ---- start at a host: 1, 5, then the host's own, 9, 11, 10, then 13
+
+abbrev pub startStep : Cell → ℕ → ℕ → Stepped
+startStep c h d = started (c .settings) (hostAt c h) d
+
+unfoldable pub startAtRefusal : Cell → ℕ → ℕ → ℕ
+startAtRefusal c h d =
+    firstOf (
+    unless (cellOk c) refusedCell
+    ∷ hostRefusal c h
+    ∷ startRefusal (c .settings) (hostAt c h) d
+    ∷ stepFull (c .settings .n) (c .slots) (startStep c h d)
+    ∷ []
+    )
+
+unfoldable pub startAtOf : Cell → ℕ → ℕ → Answered
+startAtOf c h d = answerWith (startAtRefusal c h d) c (stepped c h (c .slots) (startStep c h d))
+
+-- ---- deliver a slot: 1, 12, 13, 'counting the freed slot as empty'
+
+-- 'empties the slot, then the receiver acts'
+abbrev pub targetOf : Message → ℕ
+targetOf m = numbersOf m .target
+
+abbrev pub deliverStep : Cell → Message → Stepped
+deliverStep c m = acted (c .settings) (hostAt c (targetOf m)) m
+
+unfoldable pub deliverFull : Cell → ℕ → Content → ℕ
+deliverFull c i Content.Empty = done
+deliverFull c i (Content.One m) = stepFull (c .settings .n) (freed (c .slots) i) (deliverStep c m)
+
+unfoldable pub deliverRefusal : Cell → ℕ → ℕ
+deliverRefusal c i = firstOf (unless (cellOk c) refusedCell ∷ slotRefusal i (contentAt c i) ∷ deliverFull c i (contentAt c i) ∷ [])
+
+unfoldable pub delivered : Cell → ℕ → Content → Cell
+delivered c i Content.Empty = c
+delivered c i (Content.One m) = stepped c (targetOf m) (freed (c .slots) i) (deliverStep c m)
+
+unfoldable pub deliverOf : Cell → ℕ → Answered
+deliverOf c i = answerWith (deliverRefusal c i) c (delivered c i (contentAt c i))
+
+-- ---- lose a slot: 1, 12
+
+unfoldable pub loseRefusal : Cell → ℕ → ℕ
+loseRefusal c i = firstOf (unless (cellOk c) refusedCell ∷ slotRefusal i (contentAt c i) ∷ [])
+
+unfoldable pub loseOf : Cell → ℕ → Answered
+loseOf c i = answerWith (loseRefusal c i) c (withSlots c (freed (c .slots) i))
+
+-- ---- repeat a slot: 1, 12, 13
+
+unfoldable pub repeatRefusal : Cell → ℕ → ℕ
+repeatRefusal c i = firstOf (unless (cellOk c) refusedCell ∷ slotRefusal i (contentAt c i) ∷ fullRefusal 1 (c .slots) ∷ [])
+
+-- 'copies a slot's message into the lowest empty slot'
+unfoldable pub repeated : Cell → Content → Cell
+repeated c Content.Empty = c
+repeated c (Content.One m) = withSlots c (placed (c .slots) m)
+
+unfoldable pub repeatOf : Cell → ℕ → Answered
+repeatOf c i = answerWith (repeatRefusal c i) c (repeated c (contentAt c i))
+
+-- ---- restart a host: 1, 5
+
+unfoldable pub restartAtRefusal : Cell → ℕ → ℕ
+restartAtRefusal c h = firstOf (unless (cellOk c) refusedCell ∷ hostRefusal c h ∷ restartRefusal (c .settings) (hostAt c h) ∷ [])
+
+unfoldable pub restartAtOf : Cell → ℕ → Answered
+restartAtOf c h = answerWith (restartAtRefusal c h) c (withHosts c (set (c .hosts) h (restarted (c .settings) (hostAt c h))))
+
+-- ---- any event
+
+unfoldable pub eventOf : Cell → Event → Answered
+eventOf c (AdvanceAll d) = advanceAllOf c d
+eventOf c (AdvanceOne h d) = advanceOneOf c h d
+eventOf c (Start h d) = startAtOf c h d
+eventOf c (Deliver i) = deliverOf c i
+eventOf c (Lose i) = loseOf c i
+eventOf c (Repeat i) = repeatOf c i
+eventOf c (Restart h) = restartAtOf c h
