@@ -1,0 +1,9 @@
+pub mod Numbers
+pub mod Kept
+pub mod Act
+pub mod ActParts
+pub mod ActAsking
+pub mod ActProposing
+pub mod ActKeeping
+pub mod Steps
+pub mod Agreement
