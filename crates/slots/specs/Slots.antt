@@ -11,6 +11,7 @@ use Rattle.message.specs.Message.{numbersOf, messageTo}
 use Rattle.message.specs.Faults.{faultOf}
 use Rattle.slots.specs.declared.Content.{Content}
 use Rattle.slots.specs.declared.Slot.{Slot}
+use Rattle.slots.specs.declared.Placed.{Placed}
 
 abbrev pub slotCount : ℕ
 slotCount = 96
@@ -72,6 +73,15 @@ placedEach ss m (h ∷ hs) = placedEach (placed ss (messageTo m h)) m hs
 -- 'receivers in rising order'
 abbrev pub placedTo : ℕ → List Slot → Message → ℕ → List Slot
 placedTo n ss m receivers = placedEach ss m (members n receivers)
+
+-- slots with one message more
+unfoldable pub withMessage : Placed → Message → Placed
+withMessage p m = record { answer = p .answer; slots = placed (p .slots) m }
+
+-- what placing to a set gives: 13 and the same slots where there are too few empty ones
+unfoldable pub placeOf : ℕ → List Slot → Message → ℕ → Placed
+placeOf n ss m receivers =
+    cond (leb (length (members n receivers)) (empties ss)) (record { answer = done; slots = placedTo n ss m receivers }) (record { answer = refusedFull; slots = ss })
 
 -- a slot is emptied: it then equals one that was never used
 abbrev pub freed : List Slot → ℕ → List Slot

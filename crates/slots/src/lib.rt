@@ -1,4 +1,10 @@
-// The messages under way: 96 slots, each empty or holding one message.
+// The messages under way: 96 slots, each empty or holding one message. Whether they are within their limits, and placing a message to
+// a set of receivers.
+ghost use mathlib.Core.Path.{_≡_};
+ghost use Prim.Native.Nat.{_<_, _≤_, _^_};
+ghost use Rattle.slots.specs.Slots.{isEmpty, contentOk, slotsOk, noMessages, empties, lowest, withMessage, placeOf};
+use base::DONE;
+use base::REFUSED_FULL;
 use message::Message;
 
 // How many slots a cell has.
@@ -12,4 +18,131 @@ pub enum Content {
 
 pub struct Slot {
     pub content: Content,
+}
+
+// What placing gives: the answer's number and the slots.
+pub struct Placed {
+    pub answer: u8,
+    pub slots: [Slot; 96],
+}
+
+pub fn is_empty(c: Content) -> bool
+    ensures { λ r. ⌜ r ≡ isEmpty c ⌝ }
+{
+    match c {
+        Content::Empty => true,
+        Content::One(_) => false,
+    }
+}
+
+// Whether writing to its target refuses nothing in the message that a slot holds, if it holds one.
+pub fn content_ok(n: u8, c: Content) -> bool
+    ensures { λ r. ⌜ r ≡ contentOk n c ⌝ }
+{
+    match c {
+        Content::Empty => true,
+        Content::One(m) => message::fault(n, message::numbers_of(m)) == DONE,
+    }
+}
+
+pub fn slots_ok(n: u8, slots: [Slot; 96]) -> bool
+    ensures { λ r. ⌜ r ≡ slotsOk n slots ⌝ }
+{
+    let mut i: usize = 0;
+    while i < SLOTS {
+        let s = slots[i];
+        let c = s.content;
+        if !content_ok(n, c) {
+            return false;
+        }
+        i += 1;
+    }
+    true
+}
+
+// The slots of a cell that opens.
+pub fn no_messages() -> [Slot; 96]
+    ensures { λ r. ⌜ r ≡ noMessages ⌝ }
+{
+    let s = Slot {
+        content: Content::Empty,
+    };
+    [s; 96]
+}
+
+// How many slots are empty.
+fn empties_in(slots: [Slot; 96]) -> usize
+    ensures { λ r. ⌜ r ≡ empties slots ⌝ }
+{
+    let mut i: usize = 0;
+    let mut count: usize = 0;
+    while i < SLOTS {
+        let s = slots[i];
+        let c = s.content;
+        if is_empty(c) {
+            count += 1;
+        }
+        i += 1;
+    }
+    count
+}
+
+// The lowest empty slot, or 96.
+fn lowest_in(slots: [Slot; 96]) -> usize
+    ensures { λ r. ⌜ r ≡ lowest slots ⌝ }
+{
+    let mut i: usize = 0;
+    while i < SLOTS {
+        let s = slots[i];
+        let c = s.content;
+        if is_empty(c) {
+            return i;
+        }
+        i += 1;
+    }
+    SLOTS
+}
+
+impl Placed {
+    // One message more, in the lowest empty slot, if there is one.
+    fn with_message(self, m: Message) -> Placed
+        ensures { λ r. ⌜ r ≡ withMessage self m ⌝ }
+    {
+        let slots = self.slots;
+        let i = lowest_in(slots);
+        if SLOTS <= i {
+            return self;
+        }
+        let mut after = self;
+        after.slots[i] = Slot {
+            content: Content::One(m),
+        };
+        after
+    }
+}
+
+// Places a message to each host of a set below n, in rising order: 13 where there are too few empty slots, and then none is placed.
+pub fn place(slots: [Slot; 96], n: u8, m: Message, receivers: u16) -> Placed
+    requires { ⌜ (n ≤ 16) × (receivers < 2 ^ n) ⌝ }
+    ensures { λ r. ⌜ r ≡ placeOf n slots m receivers ⌝ }
+{
+    if empties_in(slots) < quorum::count(receivers) as usize {
+        return Placed {
+            answer: REFUSED_FULL,
+            slots,
+        };
+    }
+    let f = message::numbers_of(m);
+    let mut after = Placed {
+        answer: DONE,
+        slots,
+    };
+    let mut h: u8 = 0;
+    while h < n {
+        if quorum::has(receivers, h) {
+            after = after.with_message(message::message_of(message::with_target(f, h)));
+        }
+        h += 1;
+    }
+    after
 }
