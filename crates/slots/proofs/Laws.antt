@@ -1,0 +1,127 @@
+-- Laws of the messages under way: what holds of each of them stays so when a slot is freed or a message placed, and the slots stay
+-- as many. Assumes nothing.
+use mathlib.Core.Path.{_≡_, refl, _∙_}
+use mathlib.Core.Bool.{true}
+use mathlib.Core.List.{List, [], _∷_}
+use Prim.Native.Nat.{ℕ, zero, suc}
+use lib.ListN.{length, getD, set, replicate, length-set}
+use borrow.Author.Tests.{eqb-true, eq-eqb}
+use Rattle.base.specs.Refusals.{done}
+use Rattle.base.specs.Lists.{All}
+use Rattle.base.proofs.Tests.{both}
+use Rattle.message.specs.declared.Message.{Message}
+use Rattle.message.specs.Message.{numbersOf, messageTo}
+use Rattle.message.specs.Faults.{faultOf}
+use Rattle.slots.specs.declared.Content.{Content}
+use Rattle.slots.specs.declared.Slot.{Slot}
+use Rattle.slots.specs.Slots.{slotCount, emptySlot, slotWith, noMessages, contentOk, slotsOk, lowest, placed, placedEach, freed}
+
+-- ---- as many slots
+
+pub length-placed : (ss : List Slot) (m : Message) → length (placed ss m) ≡ length ss
+unfolding placed
+length-placed ss m = length-set ss (lowest ss) (slotWith m)
+
+pub length-placed-each : (ss : List Slot) (m : Message) (hs : List ℕ) → length (placedEach ss m hs) ≡ length ss
+unfolding placedEach
+length-placed-each ss m [] = refl
+length-placed-each ss m (h ∷ hs) = length-placed-each (placed ss (messageTo m h)) m hs ∙ length-placed ss (messageTo m h)
+
+pub length-freed : (ss : List Slot) (i : ℕ) → length (freed ss i) ≡ length ss
+length-freed ss i = length-set ss i emptySlot
+
+-- ---- what holds of each element of a list
+
+pub all-map : {A : Type 0} {P Q : A → Type 0} (xs : List A) → ((x : A) → P x → Q x) → All P xs → All Q xs
+unfolding All
+all-map [] f p = tt
+all-map (x ∷ xs) f p = (f x (p .0), all-map xs f (p .1))
+
+all-set : {A : Type 0} (P : A → Type 0) (xs : List A) (i : ℕ) (a : A) → All P xs → P a → All P (set xs i a)
+unfolding All
+all-set P [] i a p q = tt
+all-set P (x ∷ xs) zero a p q = (q, p .1)
+all-set P (x ∷ xs) (suc i) a p q = (p .0, all-set P xs i a (p .1) q)
+
+all-at : {A : Type 0} (P : A → Type 0) (xs : List A) (i : ℕ) (d : A) → All P xs → P d → P (getD xs i d)
+unfolding All
+all-at P [] i d p q = q
+all-at P (x ∷ xs) zero d p q = p .0
+all-at P (x ∷ xs) (suc i) d p q = all-at P xs i d (p .1) q
+
+all-same : {A : Type 0} (P : A → Type 0) (n : ℕ) (a : A) → P a → All P (replicate n a)
+unfolding All
+all-same P zero a q = tt
+all-same P (suc n) a q = (q, all-same P n a q)
+
+-- ---- what holds of each message under way
+
+unfoldable pub Carries : (Message → Type 0) → Content → Type 0
+Carries P Content.Empty = Unit
+Carries P (Content.One m) = P m
+
+abbrev CarriedBy : (Message → Type 0) → Slot → Type 0
+CarriedBy P s = Carries P (s .content)
+
+unfoldable pub Holds : (Message → Type 0) → List Slot → Type 0
+Holds P ss = All (CarriedBy P) ss
+
+carries-map : (P Q : Message → Type 0) → ((m : Message) → P m → Q m) → (c : Content) → Carries P c → Carries Q c
+unfolding Carries
+carries-map P Q f Content.Empty p = tt
+carries-map P Q f (Content.One m) p = f m p
+
+pub holds-map : (P Q : Message → Type 0) (ss : List Slot) → ((m : Message) → P m → Q m) → Holds P ss → Holds Q ss
+unfolding Holds
+holds-map P Q ss f p = all-map ss (λ s q. carries-map P Q f (s .content) q) p
+
+pub holds-none : (P : Message → Type 0) → Holds P noMessages
+unfolding Holds Carries
+holds-none P = all-same (CarriedBy P) slotCount emptySlot tt
+
+pub holds-freed : (P : Message → Type 0) (ss : List Slot) (i : ℕ) → Holds P ss → Holds P (freed ss i)
+unfolding Holds Carries
+holds-freed P ss i p = all-set (CarriedBy P) ss i emptySlot p tt
+
+pub holds-placed : (P : Message → Type 0) (ss : List Slot) (m : Message) → Holds P ss → P m → Holds P (placed ss m)
+unfolding Holds Carries placed
+holds-placed P ss m p q = all-set (CarriedBy P) ss (lowest ss) (slotWith m) p q
+
+pub holds-placed-each : (P : Message → Type 0) (ss : List Slot) (m : Message) (hs : List ℕ) → Holds P ss → All (λ h. P (messageTo m h)) hs → Holds P (placedEach ss m hs)
+unfolding placedEach All
+holds-placed-each P ss m [] p q = p
+holds-placed-each P ss m (h ∷ hs) p q = holds-placed-each P (placed ss (messageTo m h)) m hs (holds-placed P ss (messageTo m h) p (q .0)) (q .1)
+
+carried : (P : Message → Type 0) (c : Content) (m : Message) → Carries P c → c ≡ Content.One m → P m
+unfolding Carries
+carried P c m p e = rw e at p
+
+-- of the message in a slot
+pub holds-at : (P : Message → Type 0) (ss : List Slot) (i : ℕ) (m : Message) → Holds P ss → getD ss i emptySlot .content ≡ Content.One m → P m
+unfolding Holds Carries
+holds-at P ss i m p e = carried P (getD ss i emptySlot .content) m (all-at (CarriedBy P) ss i emptySlot p tt) e
+
+-- ---- slots within their limits: writing refuses no message under way
+
+abbrev pub Sendable : ℕ → Message → Type 0
+Sendable n m = faultOf n (numbersOf m) ≡ done
+
+content-in : (n : ℕ) (c : Content) → contentOk n c ≡ true → Carries (Sendable n) c
+unfolding contentOk Carries
+content-in n Content.Empty e = tt
+content-in n (Content.One m) e = eqb-true (faultOf n (numbersOf m)) done e
+
+out-content : (n : ℕ) (c : Content) → Carries (Sendable n) c → contentOk n c ≡ true
+unfolding contentOk Carries
+out-content n Content.Empty p = refl
+out-content n (Content.One m) p = eq-eqb (faultOf n (numbersOf m)) done p
+
+pub slots-in : (n : ℕ) (ss : List Slot) → slotsOk n ss ≡ true → Holds (Sendable n) ss
+unfolding slotsOk Holds All
+slots-in n [] e = tt
+slots-in n (s ∷ ss) e = let p = both (contentOk n (s .content)) (slotsOk n ss) e in (content-in n (s .content) (p .0), slots-in n ss (p .1))
+
+pub out-slots : (n : ℕ) (ss : List Slot) → Holds (Sendable n) ss → slotsOk n ss ≡ true
+unfolding slotsOk Holds All
+out-slots n [] p = refl
+out-slots n (s ∷ ss) p = rw (out-content n (s .content) (p .0)) (out-slots n ss (p .1))
