@@ -6,14 +6,15 @@ use lib.ListN.{getD, set}
 use Rattle.host.specs.declared.Host.{Host}
 use Rattle.host.specs.declared.Stepped.{Stepped}
 use Rattle.host.specs.Steps.{advanced, restarted}
+use Rattle.places.specs.Places.{blankHost, eachHost}
 use Rattle.slots.specs.declared.Slot.{Slot}
 use Rattle.slots.specs.declared.Content.{Content}
 use Rattle.cell.specs.declared.Cell.{Cell}
 use Rattle.cell.specs.declared.Event.{Event}
 use Rattle.cell.specs.declared.Event.the-variants.{AdvanceAll, AdvanceOne, Start, Deliver, Lose, Repeat, Restart}
 use Rattle.cell.specs.declared.Answered.{Answered}
-use Rattle.cell.specs.Limits.{blankHost, hostAt, contentAt}
-use Rattle.cell.specs.Events.{stepped, eachHost, advancedAll, advancedOne, startStep, targetOf, deliverStep, delivered, repeated, eventOf}
+use Rattle.cell.specs.Limits.{hostAt, contentAt}
+use Rattle.cell.specs.Events.{stepped, advancedAll, advancedOne, startStep, targetOf, deliverStep, delivered, repeated, eventOf}
 use Rattle.cell.specs.Runs.{opening, run}
 use Rattle.cell.proofs.Limits.{cell-in}
 use Rattle.cell.proofs.Events.{afterOf, by-outcome, by-place}

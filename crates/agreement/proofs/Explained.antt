@@ -26,6 +26,9 @@ use Rattle.host.specs.declared.Host.{Host}
 use Rattle.host.specs.declared.Stepped.{Stepped}
 use Rattle.host.specs.Steps.{quiet, blankState, advanceRefusal, advanced, restarted, startRefusal}
 use Rattle.host.proofs.Limits.{settings-in}
+use Rattle.places.specs.Places.{blankHost, clocksOk, newHost, eachHost}
+use Rattle.places.proofs.Limits.{clocks-in}
+use Rattle.places.proofs.Each.{each-below}
 use Rattle.slots.specs.declared.Content.{Content}
 use Rattle.slots.specs.declared.Slot.{Slot}
 use Rattle.slots.specs.Slots.{freed}
@@ -34,11 +37,11 @@ use Rattle.cell.specs.declared.Cell.{Cell}
 use Rattle.cell.specs.declared.Event.{Event}
 use Rattle.cell.specs.declared.Event.the-variants.{AdvanceAll, AdvanceOne, Start, Deliver, Lose, Repeat, Restart}
 use Rattle.cell.specs.declared.Answered.{Answered}
-use Rattle.cell.specs.Limits.{blankHost, hostAt, contentAt, cellOk, clocksOk}
-use Rattle.cell.specs.Events.{withHosts, withSlots, sentTo, stepped, newHost, opened, eachHost, advancedAll, advancedOne, advanceOneRefusal, startStep, startAtRefusal, targetOf, deliverStep, delivered, repeated, restartAtRefusal, eventOf}
+use Rattle.cell.specs.Limits.{hostAt, contentAt, cellOk}
+use Rattle.cell.specs.Events.{withHosts, withSlots, sentTo, stepped, opened, advancedAll, advancedOne, advanceOneRefusal, startStep, startAtRefusal, targetOf, deliverStep, delivered, repeated, restartAtRefusal, eventOf}
 use Rattle.cell.specs.Runs.{opening, run}
-use Rattle.cell.proofs.Limits.{Sized, CellIn, cell-in, clocks-in, within}
-use Rattle.cell.proofs.Events.{refusalOf, afterOf, by-outcome, by-place, each-below, holds-sent}
+use Rattle.cell.proofs.Limits.{Sized, CellIn, cell-in, within}
+use Rattle.cell.proofs.Events.{refusalOf, afterOf, by-outcome, by-place, holds-sent}
 use Rattle.theory.specs.Numbers as N
 use Rattle.theory.specs.Model as M
 use Rattle.theory.specs.Model.{World, Aged, aged, age, Reach, here, then}

@@ -22,6 +22,9 @@ use Rattle.host.specs.Steps.{hostOk, blankState, advanceRefusal, advanced, rest
 use Rattle.host.proofs.Limits.{settings-in, host-in}
 use Rattle.host.proofs.Writable.{writable-each}
 use Rattle.host.proofs.Kept.{Fine, fine-restarted, fine-acted, done-advance, done-restart, done-start}
+use Rattle.places.specs.Places.{blankHost, clocksOk, newHost, eachHost, advancesRefusal}
+use Rattle.places.proofs.Limits.{clocks-in}
+use Rattle.places.proofs.Each.{length-each, each-below, each-above}
 use Rattle.slots.specs.declared.Slot.{Slot}
 use Rattle.slots.specs.declared.Content.{Content}
 use Rattle.slots.specs.Slots.{placed, freed}
@@ -30,11 +33,11 @@ use Rattle.cell.specs.declared.Cell.{Cell}
 use Rattle.cell.specs.declared.Event.{Event}
 use Rattle.cell.specs.declared.Event.the-variants.{AdvanceAll, AdvanceOne, Start, Deliver, Lose, Repeat, Restart}
 use Rattle.cell.specs.declared.Answered.{Answered}
-use Rattle.cell.specs.Limits.{blankHost, hostAt, contentAt, cellOk, clocksOk}
-use Rattle.cell.specs.Events.{answered, withHosts, withSlots, sentTo, stepped, openingRefusal, newHost, opened, leastSettings, openingOf, eachHost, advanceAllRefusal, advancedAll, advancedOne, advanceOneRefusal, startStep, startAtRefusal, targetOf, deliverStep, delivered, repeated, restartAtRefusal, eventOf}
+use Rattle.cell.specs.Limits.{hostAt, contentAt, cellOk}
+use Rattle.cell.specs.Events.{answered, withHosts, withSlots, sentTo, stepped, openingRefusal, opened, leastSettings, openingOf, advanceAllRefusal, advancedAll, advancedOne, advanceOneRefusal, startStep, startAtRefusal, targetOf, deliverStep, delivered, repeated, restartAtRefusal, eventOf}
 use Rattle.cell.specs.Runs.{opening, run}
-use Rattle.cell.proofs.Limits.{Sized, cell-in, out-cell, within, clocks-in}
-use Rattle.cell.proofs.Events.{refusalOf, afterOf, by-outcome, by-place, length-each, each-below, each-above, length-sent, holds-sent}
+use Rattle.cell.proofs.Limits.{Sized, cell-in, out-cell, within}
+use Rattle.cell.proofs.Events.{refusalOf, afterOf, by-outcome, by-place, length-sent, holds-sent}
 use Rattle.agreement.proofs.Stays.{Stays, stays-started, stays-acted}
 
 -- the sizes of a cell, and its limits
@@ -192,16 +195,16 @@ first-each f (suc n) (h ∷ hs) e zero a b = first-passed (f h) (map f (take n h
 first-each f (suc n) (h ∷ hs) e (suc k) a b = first-each f n hs (first-passed (f h) (map f (take n hs)) e .1) k (le-of-suc-le-suc a) (le-of-suc-le-suc b)
 
 kept-advance-all : (c : Cell) (d : ℕ) → Sound c → advanceAllRefusal c d ≡ done → Sound (advancedAll c d)
-unfolding advanceAllRefusal advancedAll advanced
+unfolding advanceAllRefusal advancesRefusal advancedAll advanced
 kept-advance-all c d o e =
     let s = c .settings in
     let i = cell-in c (o .0) (o .1) in
     let few = within c (o .0) (i .settings) in
     let hs = eachHost (s .n) (λ h. advanced h d) (c .hosts) in
     let z : Sized (withHosts c hs) = record { hosts = length-each (s .n) (λ h. advanced h d) (c .hosts) ∙ o .0 .hosts; slots = o .0 .slots } in
-    let p = unless-passed (cellOk c) refusedCell _ refl e in
+    let p = first-passed (advancesRefusal s (c .hosts) d) [] (unless-passed (cellOk c) refusedCell _ refl e .1) in
     let at : (k : ℕ) → k < s .n → getD hs k blankHost ≡ advanced (hostAt c k) d = λ k a. each-below (s .n) (λ h. advanced h d) (c .hosts) k blankHost a (omega (arith, a, few)) in
-    let fine : (k : ℕ) → k < s .n → hostOk s (advanced (hostAt c k) d) ≡ true = λ k a. done-advance s (hostAt c k) d (first-each (λ h. advanceRefusal s h d) (s .n) (c .hosts) (p .1) k a (omega (arith, a, few))) .kept in (
+    let fine : (k : ℕ) → k < s .n → hostOk s (advanced (hostAt c k) d) ≡ true = λ k a. done-advance s (hostAt c k) d (first-each (λ h. advanceRefusal s h d) (s .n) (c .hosts) (p .0) k a (omega (arith, a, few))) .kept in (
       z,
       out-cell (withHosts c hs) z (record {
         settings = i .settings;

@@ -17,13 +17,14 @@ use Rattle.state.specs.Limits.{durationOk}
 use Rattle.host.specs.declared.Host.{Host}
 use Rattle.host.specs.declared.Stepped.{Stepped}
 use Rattle.host.specs.Steps.{hostOk, advanceRefusal, restartRefusal, startRefusal}
+use Rattle.places.specs.Places.{blankHost, clocksOk, advancesRefusal}
 use Rattle.slots.specs.declared.Slot.{Slot}
 use Rattle.slots.specs.declared.Content.{Content}
 use Rattle.slots.specs.Slots.{slotCount, isEmpty, slotRefusal, empties, freed}
 use Rattle.cell.specs.declared.Cell.{Cell}
 use Rattle.cell.specs.declared.Event.{Event}
 use Rattle.cell.specs.declared.Event.the-variants.{AdvanceAll, AdvanceOne, Start, Deliver, Lose, Repeat, Restart}
-use Rattle.cell.specs.Limits.{blankHost, hostAt, contentAt, cellOk, clocksOk}
+use Rattle.cell.specs.Limits.{hostAt, contentAt, cellOk}
 use Rattle.cell.specs.Events.{messagesIn, stepFull, advanceAllRefusal, advancedOne, advanceOneRefusal, startStep, startAtRefusal, deliverStep, deliverFull, deliverRefusal, loseRefusal, repeatRefusal, restartAtRefusal, eventOf}
 use Rattle.cell.proofs.Limits.{Sized, cell-in}
 use Rattle.cell.proofs.Events.{refusalOf, answer-is}
@@ -104,10 +105,11 @@ at-slot : (P : ℕ → Type 0) (c : Cell) (i : ℕ) (ks : List ℕ) → cellOk c
 at-slot P c i ks o p q = held P (cellOk c) refusedCell _ o (next P (ltb i slotCount && not (isEmpty (contentAt c i))) refusedSlot ks refl p (λ _. q))
 
 refusal-number : (P : ℕ → Type 0) (c : Cell) (e : Event) → Sized c → cellOk c ≡ true → All P (done ∷ orderOf e) → P (refusalOf c e)
-unfolding All orderOf refusalOf advanceAllRefusal advanceOneRefusal startAtRefusal deliverRefusal loseRefusal repeatRefusal restartAtRefusal
+unfolding All orderOf refusalOf advanceAllRefusal advancesRefusal advanceOneRefusal startAtRefusal deliverRefusal loseRefusal repeatRefusal restartAtRefusal
 refusal-number P c (AdvanceAll d) z o p =
     held P (cellOk c) refusedCell _ o
-    (each-of P (λ h. advanceRefusal (c .settings) h d) (c .settings .n) (c .hosts) (p .0) (λ k b. advance-number P (c .settings) (hostAt c k) d (cell-in c z o .host k b) (p .0) (p .1 .0)))
+    (last-of P _ (p .0)
+    (each-of P (λ h. advanceRefusal (c .settings) h d) (c .settings .n) (c .hosts) (p .0) (λ k b. advance-number P (c .settings) (hostAt c k) d (cell-in c z o .host k b) (p .0) (p .1 .0))))
 refusal-number P c (AdvanceOne h d) z o p =
     at-host P c h _ z o (p .1 .0)
     (λ f. first-of P (advanceRefusal (c .settings) (hostAt c h) d) _ (advance-number P (c .settings) (hostAt c h) d f (p .0) (p .1 .1 .0))

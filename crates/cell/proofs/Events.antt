@@ -1,9 +1,8 @@
 -- Every event in one form, what is refused and what is done apart; that the settings stay; and laws of the parts of the cell
--- afterwards: one host replaced, each host changed, what a step sends. Assumes nothing.
+-- afterwards: one host replaced, what a step sends. Assumes nothing.
 use mathlib.Core.Path.{_≡_, refl, sym, ap}
 use mathlib.Core.List.{List, [], _∷_}
-use Prim.Native.Nat.{ℕ, zero, suc, _≤_, _<_}
-use native.Mathlib.Nat.{not-suc-le-zero, le-of-suc-le-suc}
+use Prim.Native.Nat.{ℕ, zero, suc}
 use lib.Dec.{eqb}
 use lib.ListN.{length, getD, set}
 use borrow.Author.Tests.{eqb-true, eqb-false}
@@ -13,7 +12,6 @@ use Rattle.quorum.specs.Sets.{Member, members}
 use Rattle.quorum.proofs.Laws.{members-all}
 use Rattle.message.specs.declared.Message.{Message}
 use Rattle.message.specs.Message.{messageTo}
-use Rattle.host.specs.declared.Host.{Host}
 use Rattle.host.specs.declared.Sent.{Sent}
 use Rattle.host.specs.Steps.{restarted}
 use Rattle.slots.specs.declared.Slot.{Slot}
@@ -25,7 +23,7 @@ use Rattle.cell.specs.declared.Event.{Event}
 use Rattle.cell.specs.declared.Event.the-variants.{AdvanceAll, AdvanceOne, Start, Deliver, Lose, Repeat, Restart}
 use Rattle.cell.specs.declared.Answered.{Answered}
 use Rattle.cell.specs.Limits.{hostAt, contentAt}
-use Rattle.cell.specs.Events.{answered, answerWith, withHosts, withSlots, sentTo, stepped, eachHost, advanceAllRefusal, advancedAll, advanceAllOf, advancedOne, advanceOneRefusal, advanceOneOf, startStep, startAtRefusal, startAtOf, deliverRefusal, delivered, deliverOf, loseRefusal, loseOf, repeatRefusal, repeated, repeatOf, restartAtRefusal, restartAtOf, eventOf}
+use Rattle.cell.specs.Events.{answered, answerWith, withHosts, withSlots, sentTo, stepped, advanceAllRefusal, advancedAll, advanceAllOf, advancedOne, advanceOneRefusal, advanceOneOf, startStep, startAtRefusal, startAtOf, deliverRefusal, delivered, deliverOf, loseRefusal, loseOf, repeatRefusal, repeated, repeatOf, restartAtRefusal, restartAtOf, eventOf}
 
 -- ---- an event: the number that it is refused by, and the cell where nothing is refused
 
@@ -101,28 +99,6 @@ by-place P (y ∷ xs) zero x zero d p q = p refl
 by-place P (y ∷ xs) zero x (suc k) d p q = q
 by-place P (y ∷ xs) (suc h) x zero d p q = q
 by-place P (y ∷ xs) (suc h) x (suc k) d p q = by-place P xs h x k d (λ e. p (ap suc e)) q
-
--- ---- each of the first n hosts changed
-
-pub length-each : (n : ℕ) (f : Host → Host) (hs : List Host) → length (eachHost n f hs) ≡ length hs
-unfolding eachHost
-length-each zero f hs = refl
-length-each (suc n) f [] = refl
-length-each (suc n) f (h ∷ hs) = ap suc (length-each n f hs)
-
-pub each-below : (n : ℕ) (f : Host → Host) (hs : List Host) (k : ℕ) (d : Host) → k < n → k < length hs → getD (eachHost n f hs) k d ≡ f (getD hs k d)
-unfolding eachHost
-each-below zero f hs k d a b = absurd (not-suc-le-zero a)
-each-below (suc n) f [] k d a b = absurd (not-suc-le-zero b)
-each-below (suc n) f (h ∷ hs) zero d a b = refl
-each-below (suc n) f (h ∷ hs) (suc k) d a b = each-below n f hs k d (le-of-suc-le-suc a) (le-of-suc-le-suc b)
-
-pub each-above : (n : ℕ) (f : Host → Host) (hs : List Host) (k : ℕ) (d : Host) → n ≤ k → getD (eachHost n f hs) k d ≡ getD hs k d
-unfolding eachHost
-each-above zero f hs k d a = refl
-each-above (suc n) f [] k d a = refl
-each-above (suc n) f (h ∷ hs) zero d a = absurd (not-suc-le-zero a)
-each-above (suc n) f (h ∷ hs) (suc k) d a = each-above n f hs k d (le-of-suc-le-suc a)
 
 -- ---- what a step sends
 

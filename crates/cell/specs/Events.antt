@@ -1,11 +1,11 @@
 -- Opening and the seven events, in document 01's order: what is refused and what is done, apart. The host's part of each is the rule
 -- book's. Assumes nothing.
-use Prim.Native.Nat.{ℕ, zero, suc, _+_}
-use mathlib.Core.Bool.{Bool, true, cond, not}
-use mathlib.Core.List.{List, [], _∷_, map}
+use Prim.Native.Nat.{ℕ}
+use mathlib.Core.Bool.{cond}
+use mathlib.Core.List.{List, [], _∷_}
 use lib.Dec.{ltb, leb, eqb}
-use lib.ListN.{set, take, length}
-use Rattle.base.specs.Refusals.{done, unless, firstOf, refusedCell, refusedHost, refusedTick, refusedFull, refusedSpread, refusedSlot}
+use lib.ListN.{set, length}
+use Rattle.base.specs.Refusals.{done, unless, firstOf, refusedCell, refusedHost, refusedTick, refusedSpread}
 use Rattle.quorum.specs.Sets.{members}
 use Rattle.message.specs.declared.Message.{Message}
 use Rattle.message.specs.Message.{lastTick, numbersOf}
@@ -14,7 +14,8 @@ use Rattle.state.specs.Limits.{settingsOk}
 use Rattle.host.specs.declared.Host.{Host}
 use Rattle.host.specs.declared.Sent.{Sent}
 use Rattle.host.specs.declared.Stepped.{Stepped}
-use Rattle.host.specs.Steps.{quiet, blankState, advanceRefusal, advanced, restartRefusal, restarted, startRefusal, started, acted}
+use Rattle.host.specs.Steps.{advanceRefusal, advanced, restartRefusal, restarted, startRefusal, started, acted}
+use Rattle.places.specs.Places.{newHosts, advancesRefusal, advancedHosts, clocksOk}
 use Rattle.slots.specs.declared.Slot.{Slot}
 use Rattle.slots.specs.declared.Content.{Content}
 use Rattle.slots.specs.Slots.{noMessages, slotRefusal, fullRefusal, placed, placedTo, freed}
@@ -22,7 +23,7 @@ use Rattle.cell.specs.declared.Cell.{Cell}
 use Rattle.cell.specs.declared.Event.{Event}
 use Rattle.cell.specs.declared.Event.the-variants.{AdvanceAll, AdvanceOne, Start, Deliver, Lose, Repeat, Restart}
 use Rattle.cell.specs.declared.Answered.{Answered}
-use Rattle.cell.specs.Limits.{blankHost, hostAt, contentAt, cellOk, clocksOk}
+use Rattle.cell.specs.Limits.{hostAt, contentAt, cellOk}
 
 -- ---- parts of an event
 
@@ -71,11 +72,8 @@ unfoldable pub openingRefusal : Settings → ℕ → ℕ
 openingRefusal s clock = firstOf (unless (settingsOk s) refusedCell ∷ unless (leb clock lastTick) refusedTick ∷ [])
 
 -- 'sets every clock to one given tick, and every host waits as after a restart'
-unfoldable pub newHost : Settings → ℕ → ℕ → Host
-newHost s clock i = cond (ltb i (s .n)) (restarted s (record { number = i; clock = clock; wait = 0; state = blankState })) blankHost
-
 unfoldable pub opened : Settings → ℕ → Cell
-opened s clock = record { settings = s; hosts = map (newHost s clock) (0 ∷ 1 ∷ 2 ∷ 3 ∷ 4 ∷ 5 ∷ 6 ∷ 7 ∷ 8 ∷ []); slots = noMessages }
+opened s clock = record { settings = s; hosts = newHosts s clock; slots = noMessages }
 
 -- 'a refused opening hands back the cell opened with n 1, T 1, S 0, clock 0'
 abbrev pub leastSettings : Settings
@@ -86,17 +84,11 @@ openingOf s clock = answerWith (openingRefusal s clock) (opened leastSettings 0)
 
 -- ---- advance all by d: 1, 15
 
--- the first k hosts, each changed
-unfoldable pub eachHost : ℕ → (Host → Host) → List Host → List Host
-eachHost zero f hs = hs
-eachHost (suc k) f [] = []
-eachHost (suc k) f (h ∷ hs) = f h ∷ eachHost k f hs
-
 unfoldable pub advanceAllRefusal : Cell → ℕ → ℕ
-advanceAllRefusal c d = firstOf (unless (cellOk c) refusedCell ∷ map (λ h. advanceRefusal (c .settings) h d) (take (c .settings .n) (c .hosts)))
+advanceAllRefusal c d = firstOf (unless (cellOk c) refusedCell ∷ advancesRefusal (c .settings) (c .hosts) d ∷ [])
 
 unfoldable pub advancedAll : Cell → ℕ → Cell
-advancedAll c d = withHosts c (eachHost (c .settings .n) (λ h. advanced h d) (c .hosts))
+advancedAll c d = withHosts c (advancedHosts (c .settings) (c .hosts) d)
 
 unfoldable pub advanceAllOf : Cell → ℕ → Answered
 advanceAllOf c d = answerWith (advanceAllRefusal c d) c (advancedAll c d)

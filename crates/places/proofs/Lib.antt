@@ -1,0 +1,4 @@
+pub mod Limits
+pub mod Each
+pub mod Walks
+pub mod Steps

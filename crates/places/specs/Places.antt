@@ -1,0 +1,101 @@
+-- The nine places for hosts: the limits of what they hold, how far apart their clocks are, and what opening and an advance of all leave
+-- there. Assumes nothing.
+use Prim.Native.Nat.{ℕ, zero, suc, _+_}
+use mathlib.Core.Bool.{Bool, true, false, cond, _&&_}
+use mathlib.Core.List.{List, [], _∷_, map}
+use lib.Dec.{ltb, leb, eqb}
+use lib.ListN.{take}
+use Rattle.base.specs.Refusals.{done, firstOf}
+use Rattle.rules.specs.declared.Promised.{Promised}
+use Rattle.rules.specs.declared.Accepted.{Accepted}
+use Rattle.rules.specs.declared.LastTick.{LastTick}
+use Rattle.rules.specs.declared.Named.{Named}
+use Rattle.state.specs.declared.Settings.{Settings}
+use Rattle.state.specs.declared.Round.{Round}
+use Rattle.state.specs.declared.State.{State}
+use Rattle.host.specs.declared.Host.{Host}
+use Rattle.host.specs.Steps.{hostOk, blankState, restarted, advanceRefusal, advanced}
+use Rattle.places.specs.declared.Advanced.{Advanced}
+
+-- ---- what a place holds
+
+-- what a place at n or above holds
+abbrev pub blankHost : Host
+blankHost = record { number = 0; clock = 0; wait = 0; state = blankState }
+
+unfoldable pub noPromise : Promised → Bool
+noPromise Promised.Nothing = true
+noPromise (Promised.To b) = false
+
+unfoldable pub noLease : Accepted → Bool
+noLease Accepted.Nothing = true
+noLease (Accepted.One l) = false
+
+unfoldable pub noTick : LastTick → Bool
+noTick LastTick.Never = true
+noTick (LastTick.At t) = false
+
+unfoldable pub noRound : Round → Bool
+noRound Round.Idle = true
+noRound (Round.Asking a) = false
+noRound (Round.Proposing p) = false
+
+unfoldable pub noHolder : Named → Bool
+noHolder Named.Nobody = true
+noHolder (Named.One k) = false
+
+unfoldable pub isBlankState : State → Bool
+isBlankState t = noPromise (t .promised) && (noLease (t .accepted) && (noTick (t .last) && (noRound (t .round) && noHolder (t .named))))
+
+unfoldable pub isBlank : Host → Bool
+isBlank h = eqb (h .number) 0 && (eqb (h .clock) 0 && (eqb (h .wait) 0 && isBlankState (h .state)))
+
+-- 'a host's number is not its place', or the host is past its limits; a place at n or above holds the blank host
+unfoldable pub placeOk : Settings → ℕ → Host → Bool
+placeOk s i h = cond (ltb i (s .n)) (eqb (h .number) i && hostOk s h) (isBlank h)
+
+-- from place i on
+unfoldable pub placesOk : Settings → ℕ → List Host → Bool
+placesOk s i [] = true
+placesOk s i (h ∷ hs) = placeOk s i h && placesOk s (suc i) hs
+
+-- this clock is at most S above each of these hosts'
+unfoldable pub isNear : ℕ → ℕ → List Host → Bool
+isNear spread clock [] = true
+isNear spread clock (h ∷ hs) = leb clock (h .clock + spread) && isNear spread clock hs
+
+unfoldable pub allNear : ℕ → List Host → List Host → Bool
+allNear spread [] ks = true
+allNear spread (h ∷ hs) ks = isNear spread (h .clock) ks && allNear spread hs ks
+
+-- 'any two clocks differ by at most S': each host's is at most S above each other's
+unfoldable pub clocksOk : Settings → List Host → Bool
+clocksOk s hs = allNear (s .spread) (take (s .n) hs) (take (s .n) hs)
+
+-- ---- opening
+
+-- 'sets every clock to one given tick, and every host waits as after a restart'
+unfoldable pub newHost : Settings → ℕ → ℕ → Host
+newHost s clock i = cond (ltb i (s .n)) (restarted s (record { number = i; clock = clock; wait = 0; state = blankState })) blankHost
+
+abbrev pub newHosts : Settings → ℕ → List Host
+newHosts s clock = map (newHost s clock) (0 ∷ 1 ∷ 2 ∷ 3 ∷ 4 ∷ 5 ∷ 6 ∷ 7 ∷ 8 ∷ [])
+
+-- ---- an advance of all hosts by d
+
+-- the first k hosts, each changed
+unfoldable pub eachHost : ℕ → (Host → Host) → List Host → List Host
+eachHost zero f hs = hs
+eachHost (suc k) f [] = []
+eachHost (suc k) f (h ∷ hs) = f h ∷ eachHost k f hs
+
+-- the first refusal of a host
+unfoldable pub advancesRefusal : Settings → List Host → ℕ → ℕ
+advancesRefusal s hs d = firstOf (map (λ h. advanceRefusal s h d) (take (s .n) hs))
+
+abbrev pub advancedHosts : Settings → List Host → ℕ → List Host
+advancedHosts s hs d = eachHost (s .n) (λ h. advanced h d) hs
+
+unfoldable pub advancesOf : Settings → List Host → ℕ → Advanced
+advancesOf s hs d =
+    cond (eqb (advancesRefusal s hs d) done) (record { answer = done; hosts = advancedHosts s hs d }) (record { answer = advancesRefusal s hs d; hosts = hs })

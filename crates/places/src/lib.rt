@@ -1,0 +1,227 @@
+// The nine places for hosts: whether what they hold is within its limits, how far apart their clocks are, and what opening and an
+// advance of all leave there.
+ghost use mathlib.Core.Path.{_≡_};
+ghost use mathlib.Core.Bool.{true};
+ghost use Prim.Native.Nat.{_<_, _≤_, max, min};
+ghost use lib.ListN.{take};
+ghost use Rattle.message.specs.Message.{lastTick};
+ghost use Rattle.state.specs.Limits.{settingsOk};
+ghost use Rattle.places.specs.Places.{noPromise, noLease, noTick, noRound, noHolder, isBlankState, isBlank, blankHost, placeOk, placesOk, clocksOk, newHost, newHosts, advancesOf};
+use base::DONE;
+use host::Host;
+use rules::Accepted;
+use rules::LastTick;
+use rules::Named;
+use rules::Promised;
+use state::Round;
+use state::Settings;
+use state::State;
+
+// How many places for hosts a cell has.
+pub const PLACES: usize = 9;
+
+// What an advance of all hosts gives: the answer's number and the hosts.
+pub struct Advanced {
+    pub answer: u8,
+    pub hosts: [Host; 9],
+}
+
+fn no_promise(p: Promised) -> bool
+    ensures { λ r. ⌜ r ≡ noPromise p ⌝ }
+{
+    match p {
+        Promised::Nothing => true,
+        Promised::To(_) => false,
+    }
+}
+
+fn no_lease(a: Accepted) -> bool
+    ensures { λ r. ⌜ r ≡ noLease a ⌝ }
+{
+    match a {
+        Accepted::Nothing => true,
+        Accepted::One(_) => false,
+    }
+}
+
+fn no_tick(l: LastTick) -> bool
+    ensures { λ r. ⌜ r ≡ noTick l ⌝ }
+{
+    match l {
+        LastTick::Never => true,
+        LastTick::At(_) => false,
+    }
+}
+
+fn no_round(r: Round) -> bool
+    ensures { λ v. ⌜ v ≡ noRound r ⌝ }
+{
+    match r {
+        Round::Idle => true,
+        Round::Asking(_) => false,
+        Round::Proposing(_) => false,
+    }
+}
+
+fn no_holder(m: Named) -> bool
+    ensures { λ r. ⌜ r ≡ noHolder m ⌝ }
+{
+    match m {
+        Named::Nobody => true,
+        Named::One(_) => false,
+    }
+}
+
+fn is_blank_state(t: State) -> bool
+    ensures { λ r. ⌜ r ≡ isBlankState t ⌝ }
+{
+    let promised = t.promised;
+    let accepted = t.accepted;
+    let last = t.last;
+    let round = t.round;
+    let named = t.named;
+    no_promise(promised)
+        & (no_lease(accepted) & (no_tick(last) & (no_round(round) & no_holder(named))))
+}
+
+// Whether all numbers are 0 and everything is none.
+fn is_blank(h: Host) -> bool
+    ensures { λ r. ⌜ r ≡ isBlank h ⌝ }
+{
+    let t = h.state;
+    (h.number == 0) & ((h.clock == 0) & ((h.wait == 0) & is_blank_state(t)))
+}
+
+// Whether place i holds what it may.
+fn place_ok(s: Settings, i: usize, h: Host) -> bool
+    ensures { λ r. ⌜ r ≡ placeOk s i h ⌝ }
+{
+    if i < s.n as usize {
+        return (h.number as usize == i) & host::host_ok(s, h);
+    }
+    is_blank(h)
+}
+
+pub fn places_ok(s: Settings, hosts: [Host; 9]) -> bool
+    ensures { λ r. ⌜ r ≡ placesOk s 0 hosts ⌝ }
+{
+    let mut i: usize = 0;
+    while i < PLACES {
+        let h = hosts[i];
+        if !place_ok(s, i, h) {
+            return false;
+        }
+        i += 1;
+    }
+    true
+}
+
+fn later_of(a: u64, b: u64) -> u64
+    ensures { λ r. ⌜ r ≡ max a b ⌝ }
+{
+    if a < b {
+        return b;
+    }
+    a
+}
+
+fn earlier_of(a: u64, b: u64) -> u64
+    ensures { λ r. ⌜ r ≡ min a b ⌝ }
+{
+    if b < a {
+        return b;
+    }
+    a
+}
+
+// Whether the clocks of the n hosts are at most S apart: the largest and the smallest are found in one walk.
+pub fn clocks_ok(s: Settings, hosts: [Host; 9]) -> bool
+    requires { ⌜ (1 ≤ s .n) × (s .n ≤ 9) ⌝ }
+    ensures { λ r. ⌜ r ≡ clocksOk s hosts ⌝ }
+{
+    let first = hosts[0];
+    let n = s.n as usize;
+    let mut high = first.clock;
+    let mut low = first.clock;
+    let mut i: usize = 1;
+    while i < n {
+        let h = hosts[i];
+        high = later_of(high, h.clock);
+        low = earlier_of(low, h.clock);
+        i += 1;
+    }
+    high - low <= s.spread as u64
+}
+
+// A host as opening sets it: one that waits as after a restart, or the blank one at n or above.
+fn new_host(s: Settings, clock: u64, i: u8) -> Host
+    requires { ⌜ (settingsOk s ≡ true) × (clock ≤ lastTick) ⌝ }
+    ensures { λ r. ⌜ r ≡ newHost s clock i ⌝ }
+{
+    let state = State {
+        promised: Promised::Nothing,
+        accepted: Accepted::Nothing,
+        last: LastTick::Never,
+        round: Round::Idle,
+        named: Named::Nobody,
+    };
+    if i < s.n {
+        let h = Host {
+            number: i,
+            clock,
+            wait: 0,
+            state,
+        };
+        return h.restart(s).host;
+    }
+    Host {
+        number: 0,
+        clock: 0,
+        wait: 0,
+        state,
+    }
+}
+
+// The hosts of a cell that opens.
+pub fn new_hosts(s: Settings, clock: u64) -> [Host; 9]
+    requires { ⌜ (settingsOk s ≡ true) × (clock ≤ lastTick) ⌝ }
+    ensures { λ r. ⌜ r ≡ newHosts s clock ⌝ }
+{
+    let h0 = new_host(s, clock, 0);
+    let h1 = new_host(s, clock, 1);
+    let h2 = new_host(s, clock, 2);
+    let h3 = new_host(s, clock, 3);
+    let h4 = new_host(s, clock, 4);
+    let h5 = new_host(s, clock, 5);
+    let h6 = new_host(s, clock, 6);
+    let h7 = new_host(s, clock, 7);
+    let h8 = new_host(s, clock, 8);
+    [h0, h1, h2, h3, h4, h5, h6, h7, h8]
+}
+
+// Every host's clock goes up by d; where one host refuses, none moves.
+pub fn advance_hosts(s: Settings, hosts: [Host; 9], d: u64) -> Advanced
+    requires { ⌜ s .n ≤ 9 ⌝ }
+    ensures { λ r. ⌜ r ≡ advancesOf s hosts d ⌝ }
+{
+    let n = s.n as usize;
+    let mut after = Advanced {
+        answer: DONE,
+        hosts,
+    };
+    let mut i: usize = 0;
+    while i < n {
+        let h = hosts[i];
+        let step = h.advance(s, d);
+        if step.answer != DONE {
+            return Advanced {
+                answer: step.answer,
+                hosts,
+            };
+        }
+        let host = step.host;
+        after.hosts[i] = host;
+        i += 1;
+    }
+    after
+}
