@@ -24,7 +24,8 @@ use Rattle.state.specs.declared.Settings.{Settings}
 use Rattle.state.specs.Limits.{settingsOk}
 use Rattle.host.specs.declared.Host.{Host}
 use Rattle.host.specs.declared.Stepped.{Stepped}
-use Rattle.host.specs.Steps.{quiet, blankState, advanceRefusal, advanced, restarted, startRefusal}
+use Rattle.host.specs.Steps.{quiet, advanceRefusal, advanced, restarted, startRefusal}
+use Rattle.state.specs.Blank.{blankState}
 use Rattle.host.proofs.Limits.{settings-in}
 use Rattle.places.specs.Places.{blankHost, clocksOk, newHost, eachHost}
 use Rattle.places.proofs.Limits.{clocks-in}

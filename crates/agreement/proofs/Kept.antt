@@ -18,7 +18,8 @@ use Rattle.state.specs.declared.Settings.{Settings}
 use Rattle.state.specs.Limits.{lastLongest, settingsOk, promisedOk, acceptedOk, lastOk, roundOk, namedOk, stateOk}
 use Rattle.host.specs.declared.Host.{Host}
 use Rattle.host.specs.declared.Stepped.{Stepped}
-use Rattle.host.specs.Steps.{hostOk, blankState, advanceRefusal, advanced, restartRefusal, restarted, startRefusal}
+use Rattle.host.specs.Steps.{hostOk, advanceRefusal, advanced, restartRefusal, restarted, startRefusal}
+use Rattle.state.specs.Blank.{blankState}
 use Rattle.host.proofs.Limits.{settings-in, host-in}
 use Rattle.host.proofs.Writable.{writable-each}
 use Rattle.host.proofs.Kept.{Fine, fine-restarted, fine-acted, done-advance, done-restart, done-start}

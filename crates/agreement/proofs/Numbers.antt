@@ -85,13 +85,13 @@ restart-number P s h e z = held P (hostOk s h) refusedCell [] e (none-of P z)
 
 -- ---- each event
 
-step-full : (P : ℕ → Type 0) (n : ℕ) (ss : List Slot) (step : Stepped) → P done → P refusedFull → P (stepFull n ss step)
-step-full P n ss step z p = unless-of P (leb (messagesIn n (step .sent) (step .receivers)) (empties ss)) refusedFull z p
+step-full : (P : ℕ → Type 0) (ss : List Slot) (step : Stepped) → P done → P refusedFull → P (stepFull ss step)
+step-full P ss step z p = unless-of P (leb (messagesIn (step .sent) (step .receivers)) (empties ss)) refusedFull z p
 
 deliver-full : (P : ℕ → Type 0) (c : Cell) (i : ℕ) (t : Content) → P done → P refusedFull → P (deliverFull c i t)
 unfolding deliverFull
 deliver-full P c i Content.Empty z p = z
-deliver-full P c i (Content.One m) z p = step-full P (c .settings .n) (freed (c .slots) i) (deliverStep c m) z p
+deliver-full P c i (Content.One m) z p = step-full P (freed (c .slots) i) (deliverStep c m) z p
 
 -- 5, and then what is told of a host of the cell
 at-host : (P : ℕ → Type 0) (c : Cell) (h : ℕ) (ks : List ℕ) → Sized c → cellOk c ≡ true → P refusedHost → (hostOk (c .settings) (hostAt c h) ≡ true → P (firstOf ks))
@@ -117,7 +117,7 @@ refusal-number P c (AdvanceOne h d) z o p =
 refusal-number P c (Start h d) z o p =
     at-host P c h _ z o (p .1 .0)
     (λ f. first-of P (startRefusal (c .settings) (hostAt c h) d) _ (start-number P (c .settings) (hostAt c h) d f (p .0) (p .1 .1 .0) (p .1 .1 .1 .0) (p .1 .1 .1 .1 .0))
-    (λ _. last-of P _ (p .0) (step-full P (c .settings .n) (c .slots) (startStep c h d) (p .0) (p .1 .1 .1 .1 .1 .0))))
+    (λ _. last-of P _ (p .0) (step-full P (c .slots) (startStep c h d) (p .0) (p .1 .1 .1 .1 .1 .0))))
 refusal-number P c (Deliver i) z o p = at-slot P c i _ o (p .1 .0) (last-of P _ (p .0) (deliver-full P c i (contentAt c i) (p .0) (p .1 .1 .0)))
 refusal-number P c (Lose i) z o p = at-slot P c i [] o (p .1 .0) (none-of P (p .0))
 refusal-number P c (Repeat i) z o p = at-slot P c i _ o (p .1 .0) (last-of P _ (p .0) (unless-of P (leb 1 (empties (c .slots))) refusedFull (p .0) (p .1 .1 .0)))

@@ -72,3 +72,16 @@ unless-passed b k ks n e = let p = first-passed (unless b k) ks e in (go b (p .0
     go : (b : Bool) → unless b k ≡ done → b ≡ true
     go true q = refl
     go false q = absurd (eqb-false k done n q)
+
+-- a number that refuses nothing is passed over, any other is the answer, and the last is what it is
+pub first-next : (k : ℕ) (ks : List ℕ) → k ≡ done → firstOf (k ∷ ks) ≡ firstOf ks
+unfolding firstOf
+first-next k ks e = rw e
+
+pub first-here : (k : ℕ) (ks : List ℕ) → eqb k done ≡ false → firstOf (k ∷ ks) ≡ k
+unfolding firstOf
+first-here k ks e = rw e
+
+pub first-only : (k : ℕ) → firstOf (k ∷ []) ≡ k
+unfolding firstOf
+first-only k = by-test (λ (x : ℕ). x ≡ k) (eqb k done) done k (λ e. sym (eqb-true k done e)) (λ _. refl)

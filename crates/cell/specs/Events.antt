@@ -4,9 +4,9 @@ use Prim.Native.Nat.{ℕ}
 use mathlib.Core.Bool.{cond}
 use mathlib.Core.List.{List, [], _∷_}
 use lib.Dec.{ltb, leb, eqb}
-use lib.ListN.{set, length}
+use lib.ListN.{set}
 use Rattle.base.specs.Refusals.{done, unless, firstOf, refusedCell, refusedHost, refusedTick, refusedSpread}
-use Rattle.quorum.specs.Sets.{members}
+use Rattle.quorum.specs.Sets.{size}
 use Rattle.message.specs.declared.Message.{Message}
 use Rattle.message.specs.Message.{lastTick, numbersOf}
 use Rattle.state.specs.declared.Settings.{Settings}
@@ -44,14 +44,14 @@ withSlots c ss = record { settings = c .settings; hosts = c .hosts; slots = ss }
 abbrev pub hostRefusal : Cell → ℕ → ℕ
 hostRefusal c h = unless (ltb h (c .settings .n)) refusedHost
 
--- how many messages a step sends
-unfoldable pub messagesIn : ℕ → Sent → ℕ → ℕ
-messagesIn n Sent.Nothing receivers = 0
-messagesIn n (Sent.One m) receivers = length (members n receivers)
+-- how many messages a step sends: one to each of its receivers, all of them below n
+unfoldable pub messagesIn : Sent → ℕ → ℕ
+messagesIn Sent.Nothing receivers = 0
+messagesIn (Sent.One m) receivers = size receivers
 
 -- 13, for what a step sends
-abbrev pub stepFull : ℕ → List Slot → Stepped → ℕ
-stepFull n ss step = fullRefusal (messagesIn n (step .sent) (step .receivers)) ss
+abbrev pub stepFull : List Slot → Stepped → ℕ
+stepFull ss step = fullRefusal (messagesIn (step .sent) (step .receivers)) ss
 
 -- the slots with what a step sends
 unfoldable pub sentTo : ℕ → List Slot → Sent → ℕ → List Slot
@@ -122,7 +122,7 @@ startAtRefusal c h d =
     unless (cellOk c) refusedCell
     ∷ hostRefusal c h
     ∷ startRefusal (c .settings) (hostAt c h) d
-    ∷ stepFull (c .settings .n) (c .slots) (startStep c h d)
+    ∷ stepFull (c .slots) (startStep c h d)
     ∷ []
     )
 
@@ -131,7 +131,6 @@ startAtOf c h d = answerWith (startAtRefusal c h d) c (stepped c h (c .slots) (s
 
 -- ---- deliver a slot: 1, 12, 13, 'counting the freed slot as empty'
 
--- 'empties the slot, then the receiver acts'
 abbrev pub targetOf : Message → ℕ
 targetOf m = numbersOf m .target
 
@@ -140,11 +139,12 @@ deliverStep c m = acted (c .settings) (hostAt c (targetOf m)) m
 
 unfoldable pub deliverFull : Cell → ℕ → Content → ℕ
 deliverFull c i Content.Empty = done
-deliverFull c i (Content.One m) = stepFull (c .settings .n) (freed (c .slots) i) (deliverStep c m)
+deliverFull c i (Content.One m) = stepFull (freed (c .slots) i) (deliverStep c m)
 
 unfoldable pub deliverRefusal : Cell → ℕ → ℕ
 deliverRefusal c i = firstOf (unless (cellOk c) refusedCell ∷ slotRefusal i (contentAt c i) ∷ deliverFull c i (contentAt c i) ∷ [])
 
+-- 'empties the slot, then the receiver acts'
 unfoldable pub delivered : Cell → ℕ → Content → Cell
 delivered c i Content.Empty = c
 delivered c i (Content.One m) = stepped c (targetOf m) (freed (c .slots) i) (deliverStep c m)

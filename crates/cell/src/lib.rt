@@ -1,5 +1,29 @@
-// The cell as a bench: nine places for hosts, and the messages under way in 96 slots.
+// The cell as a bench: nine places for hosts, and the messages under way in 96 slots. Opening, and a method for each of the seven
+// events. A refused event hands back the same cell.
+ghost use mathlib.Core.Path.{_≡_};
+ghost use mathlib.Core.Bool.{true};
+ghost use Prim.Native.Nat.{_<_, _≤_};
+ghost use lib.ListN.{set};
+ghost use Rattle.message.specs.Message.{lastTick, numbersOf};
+ghost use Rattle.message.specs.Faults.{faultOf};
+ghost use Rattle.state.specs.Limits.{settingsOk};
+ghost use Rattle.cell.specs.Limits.{cellOk};
+ghost use Rattle.cell.specs.Events.{answered, withHosts, leastSettings, opened, openingOf, advanceAllOf, advanceOneOf, startAtOf, deliverOf, loseOf, repeatOf, restartAtOf, eventOf};
+ghost use Rattle.cell.specs.Parts.{sentOf, carriedOf, deliveredOf, repeatedOf};
+use base::DONE;
+use base::REFUSED_CELL;
+use base::REFUSED_HOST;
+use base::REFUSED_SLOT;
+use base::REFUSED_SPREAD;
+use base::REFUSED_TICK;
 use host::Host;
+use host::Sent;
+use host::Stepped;
+use message::LAST_TICK;
+use message::Message;
+use slots::Content;
+use slots::Placed;
+use slots::SLOTS;
 use slots::Slot;
 use state::Settings;
 
@@ -10,7 +34,7 @@ pub struct Cell {
     pub slots: [Slot; 96],
 }
 
-// The seven events: a host's number is u8, a slot's is u8.
+// The seven events: ticks to advance by, a host's number, a duration, a slot's number.
 pub enum Event {
     AdvanceAll(u64),
     AdvanceOne(u8, u64),
@@ -25,4 +49,293 @@ pub enum Event {
 pub struct Answered {
     pub answer: u8,
     pub cell: Cell,
+}
+
+fn answered_with(answer: u8, cell: Cell) -> Answered
+    ensures { λ r. ⌜ r ≡ answered answer cell ⌝ }
+{
+    Answered { answer, cell }
+}
+
+// What a step sends is placed, if it sends anything.
+fn place_sent(slots: [Slot; 96], n: u8, sent: Sent, receivers: u16) -> Placed
+    requires { ⌜ n ≤ 16 ⌝ }
+    ensures { λ r. ⌜ r ≡ sentOf n slots sent receivers ⌝ }
+{
+    match sent {
+        Sent::Nothing => Placed {
+            answer: DONE,
+            slots,
+        },
+        Sent::One(m) => slots::place(slots, n, m, receivers),
+    }
+}
+
+fn opened_with(s: Settings, clock: u64) -> Cell
+    requires { ⌜ (settingsOk s ≡ true) × (clock ≤ lastTick) ⌝ }
+    ensures { λ r. ⌜ r ≡ opened s clock ⌝ }
+{
+    let hosts = places::new_hosts(s, clock);
+    let slots = slots::no_messages();
+    Cell {
+        settings: s,
+        hosts,
+        slots,
+    }
+}
+
+// What a refused opening hands back.
+fn least() -> Cell
+    ensures { λ r. ⌜ r ≡ opened leastSettings 0 ⌝ }
+{
+    opened_with(
+        Settings {
+            n: 1,
+            longest: 1,
+            spread: 0,
+        },
+        0,
+    )
+}
+
+pub fn open(s: Settings, clock: u64) -> Answered
+    ensures { λ r. ⌜ r ≡ openingOf s clock ⌝ }
+{
+    if !state::settings_ok(s) {
+        return answered_with(REFUSED_CELL, least());
+    }
+    if LAST_TICK < clock {
+        return answered_with(REFUSED_TICK, least());
+    }
+    answered_with(DONE, opened_with(s, clock))
+}
+
+impl Cell {
+    fn within_limits(self) -> bool
+        ensures { λ r. ⌜ r ≡ cellOk self ⌝ }
+    {
+        let s = self.settings;
+        if !state::settings_ok(s) {
+            return false;
+        }
+        let hosts = self.hosts;
+        if !places::places_ok(s, hosts) {
+            return false;
+        }
+        if !places::clocks_ok(s, hosts) {
+            return false;
+        }
+        let slots = self.slots;
+        slots::slots_ok(s.n, slots)
+    }
+
+    fn with_host(self, at: usize, h: Host) -> Cell
+        requires { ⌜ at < 9 ⌝ }
+        ensures { λ r. ⌜ r ≡ withHosts self (set (self .hosts) at h) ⌝ }
+    {
+        let mut c = self;
+        c.hosts[at] = h;
+        c
+    }
+
+    // A host's step is carried into the cell with these slots, if there is room for what it sends.
+    fn carried(self, at: usize, slots: [Slot; 96], step: Stepped) -> Answered
+        requires { ⌜ (at < 9) × (self .settings .n ≤ 16) ⌝ }
+        ensures { λ r. ⌜ r ≡ carriedOf self at slots step ⌝ }
+    {
+        let sent = step.sent;
+        let placed = place_sent(slots, self.settings.n, sent, step.receivers);
+        if placed.answer != DONE {
+            return answered_with(placed.answer, self);
+        }
+        let host = step.host;
+        let under_way = placed.slots;
+        let mut c = self.with_host(at, host);
+        c.slots = under_way;
+        answered_with(DONE, c)
+    }
+
+    pub fn advance_all(self, d: u64) -> Answered
+        ensures { λ r. ⌜ r ≡ advanceAllOf self d ⌝ }
+    {
+        if !self.within_limits() {
+            return answered_with(REFUSED_CELL, self);
+        }
+        let hosts = self.hosts;
+        let after = places::advance_hosts(self.settings, hosts, d);
+        if after.answer != DONE {
+            return answered_with(after.answer, self);
+        }
+        let moved = after.hosts;
+        let mut c = self;
+        c.hosts = moved;
+        answered_with(DONE, c)
+    }
+
+    pub fn advance_one(self, host: u8, d: u64) -> Answered
+        ensures { λ r. ⌜ r ≡ advanceOneOf self host d ⌝ }
+    {
+        if !self.within_limits() {
+            return answered_with(REFUSED_CELL, self);
+        }
+        let s = self.settings;
+        if s.n <= host {
+            return answered_with(REFUSED_HOST, self);
+        }
+        let h = self.hosts[host as usize];
+        let step = h.advance(s, d);
+        if step.answer != DONE {
+            return answered_with(step.answer, self);
+        }
+        let moved = step.host;
+        let c = self.with_host(host as usize, moved);
+        let hosts = c.hosts;
+        if !places::clocks_ok(s, hosts) {
+            return answered_with(REFUSED_SPREAD, self);
+        }
+        answered_with(DONE, c)
+    }
+
+    pub fn start(self, host: u8, duration: u32) -> Answered
+        ensures { λ r. ⌜ r ≡ startAtOf self host duration ⌝ }
+    {
+        if !self.within_limits() {
+            return answered_with(REFUSED_CELL, self);
+        }
+        let s = self.settings;
+        if s.n <= host {
+            return answered_with(REFUSED_HOST, self);
+        }
+        let h = self.hosts[host as usize];
+        let step = h.start(s, duration);
+        if step.answer != DONE {
+            return answered_with(step.answer, self);
+        }
+        let slots = self.slots;
+        self.carried(host as usize, slots, step)
+    }
+
+    // The message of slot i is delivered: its slot counts as empty for what its receiver sends.
+    fn delivered_at(self, i: usize, m: Message) -> Answered
+        requires { ⌜ (cellOk self ≡ true) × ((i < 96) × (faultOf (self .settings .n) (numbersOf m) ≡ 0)) ⌝ }
+        ensures { λ r. ⌜ r ≡ deliveredOf self i m ⌝ }
+    {
+        let target = message::numbers_of(m).target as usize;
+        let h = self.hosts[target];
+        let step = h.receive(self.settings, m);
+        let mut slots = self.slots;
+        slots[i] = Slot {
+            content: Content::Empty,
+        };
+        self.carried(target, slots, step)
+    }
+
+    pub fn deliver(self, slot: u8) -> Answered
+        ensures { λ r. ⌜ r ≡ deliverOf self slot ⌝ }
+    {
+        if !self.within_limits() {
+            return answered_with(REFUSED_CELL, self);
+        }
+        let i = slot as usize;
+        if SLOTS <= i {
+            return answered_with(REFUSED_SLOT, self);
+        }
+        let held = self.slots[i];
+        let content = held.content;
+        match content {
+            Content::Empty => answered_with(REFUSED_SLOT, self),
+            Content::One(m) => self.delivered_at(i, m),
+        }
+    }
+
+    pub fn lose(self, slot: u8) -> Answered
+        ensures { λ r. ⌜ r ≡ loseOf self slot ⌝ }
+    {
+        if !self.within_limits() {
+            return answered_with(REFUSED_CELL, self);
+        }
+        let i = slot as usize;
+        if SLOTS <= i {
+            return answered_with(REFUSED_SLOT, self);
+        }
+        let held = self.slots[i];
+        let content = held.content;
+        if slots::is_empty(content) {
+            return answered_with(REFUSED_SLOT, self);
+        }
+        let mut c = self;
+        c.slots[i] = Slot {
+            content: Content::Empty,
+        };
+        answered_with(DONE, c)
+    }
+
+    // A message is placed once more, to its own target.
+    fn repeated_with(self, m: Message) -> Answered
+        requires { ⌜ (settingsOk (self .settings) ≡ true) × (faultOf (self .settings .n) (numbersOf m) ≡ 0) ⌝ }
+        ensures { λ r. ⌜ r ≡ repeatedOf self m ⌝ }
+    {
+        let target = message::numbers_of(m).target;
+        let slots = self.slots;
+        let placed = slots::place(slots, self.settings.n, m, quorum::single_of(target));
+        if placed.answer != DONE {
+            return answered_with(placed.answer, self);
+        }
+        let under_way = placed.slots;
+        let mut c = self;
+        c.slots = under_way;
+        answered_with(DONE, c)
+    }
+
+    pub fn repeat(self, slot: u8) -> Answered
+        ensures { λ r. ⌜ r ≡ repeatOf self slot ⌝ }
+    {
+        if !self.within_limits() {
+            return answered_with(REFUSED_CELL, self);
+        }
+        let i = slot as usize;
+        if SLOTS <= i {
+            return answered_with(REFUSED_SLOT, self);
+        }
+        let held = self.slots[i];
+        let content = held.content;
+        match content {
+            Content::Empty => answered_with(REFUSED_SLOT, self),
+            Content::One(m) => self.repeated_with(m),
+        }
+    }
+
+    pub fn restart(self, host: u8) -> Answered
+        ensures { λ r. ⌜ r ≡ restartAtOf self host ⌝ }
+    {
+        if !self.within_limits() {
+            return answered_with(REFUSED_CELL, self);
+        }
+        let s = self.settings;
+        if s.n <= host {
+            return answered_with(REFUSED_HOST, self);
+        }
+        let h = self.hosts[host as usize];
+        let step = h.restart(s);
+        if step.answer != DONE {
+            return answered_with(step.answer, self);
+        }
+        let restarted = step.host;
+        answered_with(DONE, self.with_host(host as usize, restarted))
+    }
+
+    // Any event.
+    pub fn apply(self, e: Event) -> Answered
+        ensures { λ r. ⌜ r ≡ eventOf self e ⌝ }
+    {
+        match e {
+            Event::AdvanceAll(d) => self.advance_all(d),
+            Event::AdvanceOne(host, d) => self.advance_one(host, d),
+            Event::Start(host, duration) => self.start(host, duration),
+            Event::Deliver(slot) => self.deliver(slot),
+            Event::Lose(slot) => self.lose(slot),
+            Event::Repeat(slot) => self.repeat(slot),
+            Event::Restart(host) => self.restart(host),
+        }
+    }
 }

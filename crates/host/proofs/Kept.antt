@@ -2,13 +2,13 @@
 -- within them; and writing refuses nothing in what is sent. Assumes nothing.
 use mathlib.Core.Path.{_≡_, refl, sym, ap, _∙_}
 use mathlib.Core.Bool.{Bool, true, false, cond, not}
-use mathlib.Core.List.{List, [], _∷_}
+use mathlib.Core.List.{[]}
 use Prim.Native.Nat.{ℕ, _+_, _-_, _^_, _≤_, _<_}
 use native.Mathlib.Omega.{arith}
 use lib.Dec.{leb, eqb}
 use lib.Pow.{pow-pos}
-use borrow.Author.Tests.{ltb-true, leb-true, eqb-true, eqb-false, lt-ltb, le-leb, ne-eqb}
-use Rattle.base.specs.Refusals.{done, unless, firstOf, refusedCell, refusedWaiting, refusedDuration, refusedClock}
+use borrow.Author.Tests.{ltb-true, leb-true, eqb-true, lt-ltb, le-leb, ne-eqb}
+use Rattle.base.specs.Refusals.{done, refusedCell, refusedWaiting, refusedDuration, refusedClock}
 use Rattle.base.proofs.Tests.{by-test, first-passed, unless-passed}
 use Rattle.quorum.specs.Sets.{isIn, isBelow, single, withHost, everyone, others}
 use Rattle.quorum.proofs.Majorities.{with-below}
@@ -38,7 +38,8 @@ use Rattle.state.specs.declared.State.{State}
 use Rattle.state.specs.Limits.{lastLongest, settingsOk, durationOk, acceptedOk, promisedOk, lastOk, roundOk, namedOk}
 use Rattle.host.specs.declared.Host.{Host}
 use Rattle.host.specs.declared.Stepped.{Stepped}
-use Rattle.host.specs.Steps.{lastWait, hostOk, refused, quiet, sending, stepWith, withState, withRound, withVote, withNamed, advanceRefusal, advanced, advanceOf, blankState, restartRefusal, restarted, restartOf, startRefusal, started, startOf, onPrepareRequest, counted, proposing, claimed, asked, onReply, onPrepareResponse, leaseOf, onProposeRequest, voted, holderOf, learning, chosen, onVote, onProposed, onProposeResponse, learned, onLearn, onMessage, acted, messageRefusal, messageStep}
+use Rattle.host.specs.Steps.{lastWait, hostOk, refused, quiet, sending, stepWith, withState, withRound, withVote, withNamed, advanceRefusal, advanced, advanceOf, restartRefusal, restarted, restartOf, startRefusal, started, startOf, onPrepareRequest, counted, proposing, claimed, asked, onReply, onPrepareResponse, leaseOf, onProposeRequest, voted, holderOf, learning, chosen, onVote, onProposed, onProposeResponse, learned, onLearn, onMessage, acted, messageRefusal, messageStep}
+use Rattle.state.specs.Blank.{blankState}
 use Rattle.host.proofs.Limits.{settings-in, HostIn, host-in, StateIn, state-in, AskingIn, asking-in}
 use Rattle.host.proofs.Writable.{out-host, out-state, BallotIn, out-ballot, LeaseIn, accepted-in, out-accepted, out-named, out-asking, ProposingIn, proposing-in, out-proposing, ClaimIn, writes, Writable, writes-request, writes-response, writes-proposal, writes-vote, writes-learn}
 

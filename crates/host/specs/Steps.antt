@@ -27,6 +27,7 @@ use Rattle.state.specs.declared.Proposing.{Proposing}
 use Rattle.state.specs.declared.Round.{Round}
 use Rattle.state.specs.declared.State.{State}
 use Rattle.state.specs.Limits.{settingsOk, durationOk, stateOk}
+use Rattle.state.specs.Blank.{blankState}
 use Rattle.host.specs.declared.Host.{Host}
 use Rattle.host.specs.declared.Sent.{Sent}
 use Rattle.host.specs.declared.Stepped.{Stepped}
@@ -106,9 +107,6 @@ unfoldable pub advanceOf : Settings → Host → ℕ → Stepped
 advanceOf s h d = stepWith (advanceRefusal s h d) h (quiet (advanced h d))
 
 -- ---- restart: 1
-
-abbrev pub blankState : State
-blankState = record { promised = Promised.Nothing; accepted = Accepted.Nothing; last = LastTick.Never; round = Round.Idle; named = Named.Nobody }
 
 unfoldable pub restartRefusal : Settings → Host → ℕ
 restartRefusal s h = firstOf (unless (hostOk s h) refusedCell ∷ [])

@@ -261,17 +261,12 @@ impl Host {
         ensures { λ r. ⌜ r ≡ restarted s self ⌝ }
     {
         let wait = rules::wait_end(self.clock, s.longest, s.spread);
+        let t = self.state;
         Host {
             number: self.number,
             clock: self.clock,
             wait,
-            state: State {
-                promised: Promised::Nothing,
-                accepted: Accepted::Nothing,
-                last: LastTick::Never,
-                round: Round::Idle,
-                named: Named::Nobody,
-            },
+            state: t.restarted(),
         }
     }
 

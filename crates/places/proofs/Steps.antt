@@ -1,16 +1,22 @@
 -- What the host's own methods give here: a host that advances, and one that opening sets. Assumes nothing.
-use mathlib.Core.Path.{_≡_, refl}
+use mathlib.Core.Path.{_≡_, refl, sym}
 use mathlib.Core.Bool.{true}
 use Prim.Native.Nat.{ℕ, _≤_, _<_}
 use native.Mathlib.Omega.{arith}
-use borrow.Author.Tests.{eq-eqb}
+use mathlib.Core.List.{List}
+use lib.Dec.{eqb}
+use borrow.Author.Tests.{eqb-true, eq-eqb}
 use Rattle.base.specs.Refusals.{done, firstOf}
+use Rattle.base.proofs.Tests.{by-test}
 use Rattle.message.specs.Message.{lastTick}
 use Rattle.state.specs.declared.Settings.{Settings}
 use Rattle.state.specs.Limits.{settingsOk, promisedOk, acceptedOk, lastOk, roundOk, namedOk, stateOk}
 use Rattle.host.specs.declared.Host.{Host}
-use Rattle.host.specs.Steps.{hostOk, quiet, blankState, advanceRefusal, advanced, advanceOf, restartRefusal, restarted, restartOf}
+use Rattle.host.specs.Steps.{hostOk, quiet, advanceRefusal, advanced, advanceOf, restartRefusal, restarted, restartOf}
+use Rattle.state.specs.Blank.{blankState}
 use Rattle.host.proofs.Writable.{out-host}
+use Rattle.places.specs.declared.Advanced.{Advanced}
+use Rattle.places.specs.Places.{advancesRefusal, advancedHosts, advancesOf}
 
 pub advance-done : (s : Settings) (h : Host) (d : ℕ) → advanceRefusal s h d ≡ done → advanceOf s h d ≡ quiet (advanced h d)
 unfolding advanceOf
@@ -30,3 +36,14 @@ fresh-ok s clock i e b h = out-host s (fresh clock i) (record { settings = e; nu
 
 pub fresh-restarts : (s : Settings) (clock i : ℕ) → settingsOk s ≡ true → clock ≤ lastTick → i < s .n → restartOf s (fresh clock i) ≡ quiet (restarted s (fresh clock i))
 fresh-restarts s clock i e b h = restart-done s (fresh clock i) (fresh-ok s clock i e b h)
+
+-- an advance of all answers its refusal, and moves every host where nothing is refused
+pub advances-answer : (s : Settings) (hs : List Host) (d : ℕ) → advancesOf s hs d .answer ≡ advancesRefusal s hs d
+unfolding advancesOf
+advances-answer s hs d =
+    by-test (λ (x : Advanced). x .answer ≡ advancesRefusal s hs d) (eqb (advancesRefusal s hs d) done) (record { answer = done; hosts = advancedHosts s hs d })
+    (record { answer = advancesRefusal s hs d; hosts = hs }) (λ e. sym (eqb-true (advancesRefusal s hs d) done e)) (λ _. refl)
+
+pub advances-hosts : (s : Settings) (hs : List Host) (d : ℕ) → advancesRefusal s hs d ≡ done → advancesOf s hs d .hosts ≡ advancedHosts s hs d
+unfolding advancesOf
+advances-hosts s hs d e = rw (eq-eqb (advancesRefusal s hs d) done e)

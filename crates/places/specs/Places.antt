@@ -14,7 +14,8 @@ use Rattle.state.specs.declared.Settings.{Settings}
 use Rattle.state.specs.declared.Round.{Round}
 use Rattle.state.specs.declared.State.{State}
 use Rattle.host.specs.declared.Host.{Host}
-use Rattle.host.specs.Steps.{hostOk, blankState, restarted, advanceRefusal, advanced}
+use Rattle.host.specs.Steps.{hostOk, restarted, advanceRefusal, advanced}
+use Rattle.state.specs.Blank.{blankState}
 use Rattle.places.specs.declared.Advanced.{Advanced}
 
 -- ---- what a place holds

@@ -147,3 +147,22 @@ members-below set n m b l =
     let e : n + (m - n) ≡ m = omega arith in
     let z : 0 + n ≡ n = omega arith in
     rw e at (members-more set 0 n (m - n) (rw z (div-eq-of-lt b)))
+
+-- the set of one host has that host and no other
+members-lone : (t h k : ℕ) → h ≤ t → t < h + k → membersFrom (single t) h k ≡ t ∷ []
+unfolding membersFrom
+members-lone t h zero a b = absurd (omega arith)
+members-lone t h (suc k) a b = go (ℕ-discrete t h) (λ d. members-lone t (suc h) k (omega arith) (omega arith))
+  where
+    go : Dec (t ≡ h) → ((t ≡ h → ⊥) → membersFrom (single t) (suc h) k ≡ t ∷ []) → cond (isIn (single t) h) (h ∷ membersFrom (single t) (suc h) k) (membersFrom (single t) (suc h) k) ≡ t ∷ []
+    go (yes e) f =
+        let one : bit (single t) h ≡ 1 = rw e (single-same h) in
+        let none = members-none (single t) (suc h) k (div-eq-of-lt (pow-lt {i = t} {j = suc h} (omega arith))) in
+        rw (one, none, e)
+    go (no d) f = rw (single-other t h d) (f d)
+
+pub members-single : (n t : ℕ) → t < n → members n (single t) ≡ t ∷ []
+members-single n t b = members-lone t 0 n (omega arith) (omega arith)
+
+pub size-single : (n t : ℕ) → t < n → ones (single t) ≡ 1
+size-single n t b = sym (members-length n (single t) (pow-lt b)) ∙ ap length (members-single n t b)

@@ -3,9 +3,9 @@ use Prim.Native.Nat.{ℕ, suc}
 use mathlib.Core.Bool.{Bool, true, false, cond, _&&_, not}
 use mathlib.Core.List.{List, [], _∷_}
 use lib.Dec.{ltb, leb, eqb}
-use lib.ListN.{length, set, replicate}
+use lib.ListN.{set, replicate}
 use Rattle.base.specs.Refusals.{done, unless, refusedSlot, refusedFull}
-use Rattle.quorum.specs.Sets.{members}
+use Rattle.quorum.specs.Sets.{size, members}
 use Rattle.message.specs.declared.Message.{Message}
 use Rattle.message.specs.Message.{numbersOf, messageTo}
 use Rattle.message.specs.Faults.{faultOf}
@@ -50,7 +50,7 @@ unfoldable pub empties : List Slot → ℕ
 empties [] = 0
 empties (s ∷ ss) = cond (isEmpty (s .content)) (suc (empties ss)) (empties ss)
 
--- 13: 'fewer empty slots than messages to send', here k messages
+-- 13: 'fewer empty slots than messages to send', of k messages
 abbrev pub fullRefusal : ℕ → List Slot → ℕ
 fullRefusal k ss = unless (leb k (empties ss)) refusedFull
 
@@ -81,7 +81,7 @@ withMessage p m = record { answer = p .answer; slots = placed (p .slots) m }
 -- what placing to a set gives: 13 and the same slots where there are too few empty ones
 unfoldable pub placeOf : ℕ → List Slot → Message → ℕ → Placed
 placeOf n ss m receivers =
-    cond (leb (length (members n receivers)) (empties ss)) (record { answer = done; slots = placedTo n ss m receivers }) (record { answer = refusedFull; slots = ss })
+    cond (leb (size receivers) (empties ss)) (record { answer = done; slots = placedTo n ss m receivers }) (record { answer = refusedFull; slots = ss })
 
 -- a slot is emptied: it then equals one that was never used
 abbrev pub freed : List Slot → ℕ → List Slot

@@ -1,7 +1,7 @@
 // The messages under way: 96 slots, each empty or holding one message. Whether they are within their limits, and placing a message to
 // a set of receivers.
 ghost use mathlib.Core.Path.{_≡_};
-ghost use Prim.Native.Nat.{_<_, _≤_, _^_};
+ghost use Prim.Native.Nat.{_≤_};
 ghost use Rattle.slots.specs.Slots.{isEmpty, contentOk, slotsOk, noMessages, empties, lowest, withMessage, placeOf};
 use base::DONE;
 use base::REFUSED_FULL;
@@ -123,7 +123,7 @@ impl Placed {
 
 // Places a message to each host of a set below n, in rising order: 13 where there are too few empty slots, and then none is placed.
 pub fn place(slots: [Slot; 96], n: u8, m: Message, receivers: u16) -> Placed
-    requires { ⌜ (n ≤ 16) × (receivers < 2 ^ n) ⌝ }
+    requires { ⌜ n ≤ 16 ⌝ }
     ensures { λ r. ⌜ r ≡ placeOf n slots m receivers ⌝ }
 {
     if empties_in(slots) < quorum::count(receivers) as usize {

@@ -1,5 +1,6 @@
 // What a host keeps of one sheet, the settings of a cell, and whether their numbers are within document 01's limits (number 1).
 ghost use mathlib.Core.Path.{_≡_};
+ghost use Rattle.state.specs.Blank.{blankState};
 ghost use Rattle.state.specs.Limits.{settingsOk, ballotOk, leaseOk, acceptedOk, promisedOk, lastOk, namedOk, askingOk, proposingOk, roundOk, stateOk, durationOk};
 use message::Ballot;
 use message::KeepersEnd;
@@ -50,6 +51,21 @@ pub struct State {
     pub last: LastTick,
     pub round: Round,
     pub named: Named,
+}
+
+impl State {
+    // A restart forgets everything.
+    pub fn restarted(self) -> State
+        ensures { λ r. ⌜ r ≡ blankState ⌝ }
+    {
+        State {
+            promised: Promised::Nothing,
+            accepted: Accepted::Nothing,
+            last: LastTick::Never,
+            round: Round::Idle,
+            named: Named::Nobody,
+        }
+    }
 }
 
 pub fn settings_ok(s: Settings) -> bool

@@ -1,24 +1,19 @@
 use Rattle.message.specs.Message.{numbersOf, messageOf, withTarget, messageTo}
-use mathlib.Core.Bool.{cond}
-use lib.Dec.{leb}
 use Rattle.slots.specs.Slots.{empties}
 use Rattle.message.specs.declared.Numbers.{Numbers}
 use Rattle.slots.specs.declared.Placed.{Placed}
 use native.Mathlib.Nat.{sub-zero}
-use Rattle.base.specs.Refusals.{refusedFull}
 use Rattle.message.specs.Message.{numbersOf, messageOf}
 use Rattle.message.proofs.Laws.{message-numbers}
 use borrow.Author.Needs.{needs}
 use borrow.Author.Tests.{lt-leb, le-leb}
 use mathlib.Core.Logic.{⊎-elim}
 use mathlib.Core.Path.{_≡_, refl, sym, ap, _∙_}
-use Prim.Native.Nat.{_≤_, _<_, _-_, _+_, _^_}
+use Prim.Native.Nat.{_≤_, _-_, _+_}
 use native.Mathlib.Omega.{arith}
-use lib.ListN.{length}
 use Rattle.base.specs.Refusals.{done}
-use Rattle.quorum.specs.Sets.{membersFrom, members}
-use Rattle.quorum.proofs.Laws.{members-length}
-use Rattle.slots.specs.Slots.{placed, placedEach, placeOf, withMessage}
+use Rattle.quorum.specs.Sets.{size, membersFrom, members}
+use Rattle.slots.specs.Slots.{placedEach, placeOf, withMessage}
 use Rattle.slots.proofs.Walks.{placed-turn, placed-skip}
 use Rattle.slots.proofs.place.Statement.{statement}
 use Rattle.slots.proofs.place.Tie as tie
@@ -42,14 +37,13 @@ returns : tie.Need-returns Inv-loop μ-loop
 unfolding placeOf
 returns c =
     let a = c .before .before .before .args in
-    let e = members-length (a .n) (a .receivers) (c .before .before .before .pre .1) in
-    rw (lt-leb (length (members (a .n) (a .receivers))) (empties (a .slots)) (omega (arith, e, c .before .count .ensures, c .before .before .empties-in .ensures, c .if1 .taken)))
+    rw (lt-leb (size (a .receivers)) (empties (a .slots)) (omega (arith, c .before .count .ensures, c .before .before .empties-in .ensures, c .if1 .taken)))
 
 numbers-of-requires : tie.Need-numbers-of-requires Inv-loop μ-loop
 numbers-of-requires c κs = search needs
 
 loop-holds : tie.Need-loop-holds Inv-loop μ-loop
-loop-holds c = (c .before .before .before .before .pre .0, omega arith, rw (c .numbers-of .ensures, message-numbers (c .before .before .before .before .args .m)), refl, simp sub-zero)
+loop-holds c = (c .before .before .before .before .pre, omega arith, rw (c .numbers-of .ensures, message-numbers (c .before .before .before .before .args .m)), refl, simp sub-zero)
 
 has-requires : tie.Need-has-requires Inv-loop μ-loop
 has-requires c κs = search needs
@@ -103,11 +97,10 @@ returns-2 c =
     let a = c .before .before .before .before .before .before .args in
     let l = c .before .loop in
     let f = c .before .before .numbers-of .result in
-    let e = members-length (a .n) (a .receivers) (c .before .before .before .before .before .before .pre .1) in
     let z : a .n - l .h ≡ 0 = omega (arith, c .loop-test .left) in
     let own : messageOf f ≡ a .m = ap messageOf (c .before .before .numbers-of .ensures) ∙ message-numbers (a .m) in
     let same : l .after .slots ≡ placedEach (a .slots) (a .m) (members (a .n) (a .receivers)) = rw (z, own) at (l .inv .4) in
-    rw (le-leb (length (members (a .n) (a .receivers))) (empties (a .slots)) (omega (arith, e, c .before .before .before .before .count .ensures, c .before .before .before .before .before .empties-in .ensures, c .before .before .before .if1 .left)), ← same, ← l .inv .3)
+    rw (le-leb (size (a .receivers)) (empties (a .slots)) (omega (arith, c .before .before .before .before .count .ensures, c .before .before .before .before .before .empties-in .ensures, c .before .before .before .if1 .left)), ← same, ← l .inv .3)
 
 pub place-spec : {M : Type 1} → statement M
 place-spec =

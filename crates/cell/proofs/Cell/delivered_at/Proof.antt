@@ -1,0 +1,70 @@
+use mathlib.Core.Path.{sym, ap}
+use native.Mathlib.Omega.{arith}
+use Rattle.slots.proofs.Walks.{length-mapped}
+use Rattle.message.specs.declared.Numbers.{Numbers}
+use Rattle.cell.specs.Limits.{hostAt}
+use Rattle.cell.specs.Events.{targetOf}
+use Rattle.cell.specs.Parts.{deliveredOf}
+use Rattle.cell.proofs.Limits.{Sized, cell-in}
+use Rattle.cell.proofs.Methods.{n-of, target-in, message-done}
+use borrow.Author.Needs.{needs}
+use Rattle.cell.proofs.Cell.delivered_at.Statement.{statement}
+use Rattle.cell.proofs.Cell.delivered_at.Tie as tie
+
+-- the places and slots of the cell that was handed in
+sized : (c : tie.Start) → Sized (c .args .t1)
+sized c = record { hosts = search (needs, length-mapped); slots = search (needs, length-mapped) }
+
+numbers-of-requires : tie.Need-numbers-of-requires
+numbers-of-requires c κs = search needs
+
+cast-target : tie.Need-cast-target
+cast-target c = search needs
+
+mul-h : tie.Need-mul-h
+mul-h c = search needs
+
+element-copy-out-h : tie.Need-element-copy-out-h
+element-copy-out-h c =
+    let i = n-of (c .before .before .args .t1) (c .before .before .pre .0) in
+    let t = target-in (c .before .before .args .t1 .settings .n) (c .before .before .args .m) (c .before .before .pre .1 .1) in
+    omega (arith, i .few, t, ap (λ (f : Numbers). f .target) (c .before .numbers-of .ensures))
+
+receive-requires : tie.Need-receive-requires
+receive-requires c κs = search needs
+
+mul-slots : tie.Need-mul-slots
+mul-slots c = search needs
+
+array-set-from-slots : tie.Need-array-set-from-slots
+array-set-from-slots c = search needs
+
+carried-requires : tie.Need-carried-requires
+carried-requires c κs =
+    let i = n-of (c .before .before .before .before .before .before .args .t1) (c .before .before .before .before .before .before .pre .0) in
+    let t = target-in (c .before .before .before .before .before .before .args .t1 .settings .n) (c .before .before .before .before .before .before .args .m) (c .before .before .before .before .before .before .pre .1 .1) in
+    (omega (arith, i .few, t, ap (λ (f : Numbers). f .target) (c .before .before .before .before .before .numbers-of .ensures)), omega (arith, i .few))
+
+returns : tie.Need-returns
+unfolding deliveredOf
+returns c =
+    let a = c .before .before .before .before .before .before .before .args in
+    let f = c .before .before .before .before .before .before .numbers-of .ensures in
+    let i = cell-in (a .t1) (sized (c .before .before .before .before .before .before .before)) (c .before .before .before .before .before .before .before .pre .0) in
+    let b = target-in (a .t1 .settings .n) (a .m) (c .before .before .before .before .before .before .before .pre .1 .1) in
+    let h = hostAt (a .t1) (targetOf (a .m)) in
+    rw (c .carried .ensures, c .before .before .receive .ensures, f, message-done (a .t1 .settings) h (a .m) (i .host (targetOf (a .m)) b) (c .before .before .before .before .before .before .before .pre .1 .1) (sym (i .number (targetOf (a .m)) b)))
+
+pub delivered-at-spec : {M : Type 1} → statement M
+delivered-at-spec =
+    tie.close
+    (tie.spec
+    numbers-of-requires
+    cast-target
+    mul-h
+    element-copy-out-h
+    receive-requires
+    mul-slots
+    array-set-from-slots
+    carried-requires
+    returns)
