@@ -6,3 +6,5 @@ pub mod Numbers
 pub mod Clocks
 pub mod Explained
 pub mod Agreement
+pub mod EveryRun
+pub mod Played

@@ -22,8 +22,8 @@ use Rattle.table.specs.NotEmpty.{NotEmpty}
 computed : Table × NotEmpty
 unfolding ones onesIn allHold answer firstOf le numberAt total numbersAt packed majority membersFrom lastTick lastEnd isAbove kindOf numbersOf messageOf messageTo partyFits faultOf partyFitsTo faultTo moreOf bytesOf valueIn numbersIn readAnswer readOf waitEnd acceptedAt namedAt isFresh mayPromise hasEnded higherOf acts claimOf isForbidden mayAccept afterAccept namedBy lastLongest settingsOk durationOk ballotOk leaseOk acceptedOk promisedOk lastOk namedOk askingOk proposingOk roundOk stateOk lastWait hostOk advanceRefusal advanced advanceOf restartRefusal restarted restartOf startRefusal started startOf responseWith onPrepareRequest counted proposing asked onReply onPrepareResponse onProposeRequest voted learning chosen onVote onProposed onProposeResponse onLearn onMessage acted messageRefusal messageStep decides isDecidingVote namedByMajority isEmpty contentOk slotsOk empties lowest placed placedEach noPromise noLease noTick noRound noHolder isBlankState isBlank placeOk placesOk isNear allNear clocksOk cellOk messagesIn sentTo stepped openingRefusal newHost opened openingOf eachHost advancesRefusal advanceAllRefusal advancedAll advanceAllOf advancedOne advanceOneRefusal advanceOneOf startAtRefusal startAtOf deliverFull deliverRefusal delivered deliverOf loseRefusal loseOf repeatRefusal repeated repeatOf restartAtRefusal restartAtOf eventOf run answers
 computed = (
-  record { P1 = refl; P2 = refl; P3 = refl; P4 = refl; P5 = (refl, refl); P6 = refl; P7 = refl; P8 = refl; P9 = refl; P10 = refl; P11 = refl; P12 = refl },
-  record { learned = refl; ended = refl; passed = refl; waits = refl; returned = refl },
+  record { P1 = refl; P2 = refl; P3 = refl; P4 = refl; P5 = (refl, refl); P6 = refl; P7 = refl; P8 = refl; P9 = (refl, refl, refl, refl); P10 = refl; P11 = refl; P12 = refl },
+  record { answered = refl; learned = refl; ended = refl; passed = refl; waits = refl; returned = refl },
 )
 
 pub table : Table

@@ -13,7 +13,7 @@ use Rattle.theory.specs.Model.{Setup, Message, prepareRequest, prepareRe
 module _ {𝒞 : Setup} where
   open Setup 𝒞 using (longest as T, spread as S, Hosts, In, Majority)
 
-  -- ---- facts of a world that every step keeps
+  -- ---- facts of a world; every step keeps them, but that a live proposal may come to be dead or blocked
 
   abbrev pub Voted : World 𝒞 → ℕ → ℕ → Type 0
   Voted s x b = Sent s (proposeResponse x b)
@@ -108,7 +108,7 @@ module _ {𝒞 : Setup} where
     pub below : Below s b K
     pub heard : (x : ℕ) → In x R → Heard s x b K
 
-  -- a host proposes (I)
+  -- a host proposes (I; whose ballot it is, the proof does not need)
   pub record Proposing (s : World 𝒞) (b o e : ℕ) (R : Hosts) : Type 0 where
     pub proposed : Proposed s b o e
     pub votes : (x : ℕ) → In x R → Voted s x b
