@@ -74,10 +74,6 @@ placedEach ss m (h ∷ hs) = placedEach (placed ss (messageTo m h)) m hs
 abbrev pub placedTo : ℕ → List Slot → Message → ℕ → List Slot
 placedTo n ss m receivers = placedEach ss m (members n receivers)
 
--- slots with one message more
-unfoldable pub withMessage : Placed → Message → Placed
-withMessage p m = record { answer = p .answer; slots = placed (p .slots) m }
-
 -- what placing to a set gives: 13 and the same slots where there are too few empty ones
 unfoldable pub placeOf : ℕ → List Slot → Message → ℕ → Placed
 placeOf n ss m receivers =

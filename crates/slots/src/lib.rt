@@ -2,7 +2,7 @@
 // a set of receivers.
 ghost use mathlib.Core.Path.{_≡_};
 ghost use Prim.Native.Nat.{_≤_};
-ghost use Rattle.slots.specs.Slots.{isEmpty, contentOk, slotsOk, noMessages, empties, lowest, withMessage, placeOf};
+ghost use Rattle.slots.specs.Slots.{isEmpty, contentOk, slotsOk, noMessages, empties, lowest, placeOf};
 use base::DONE;
 use base::REFUSED_FULL;
 use message::Message;
@@ -103,24 +103,6 @@ fn lowest_in(slots: [Slot; 96]) -> usize
     SLOTS
 }
 
-impl Placed {
-    // One message more, in the lowest empty slot, if there is one.
-    fn with_message(self, m: Message) -> Placed
-        ensures { λ r. ⌜ r ≡ withMessage self m ⌝ }
-    {
-        let slots = self.slots;
-        let i = lowest_in(slots);
-        if SLOTS <= i {
-            return self;
-        }
-        let mut after = self;
-        after.slots[i] = Slot {
-            content: Content::One(m),
-        };
-        after
-    }
-}
-
 // Places a message to each host of a set below n, in rising order: 13 where there are too few empty slots, and then none is placed.
 pub fn place(slots: [Slot; 96], n: u8, m: Message, receivers: u16) -> Placed
     requires { ⌜ n ≤ 16 ⌝ }
@@ -133,16 +115,21 @@ pub fn place(slots: [Slot; 96], n: u8, m: Message, receivers: u16) -> Placed
         };
     }
     let f = message::numbers_of(m);
-    let mut after = Placed {
-        answer: DONE,
-        slots,
-    };
+    let mut after = slots;
     let mut h: u8 = 0;
     while h < n {
         if quorum::has(receivers, h) {
-            after = after.with_message(message::message_of(message::with_target(f, h)));
+            let i = lowest_in(after);
+            if i < SLOTS {
+                after[i] = Slot {
+                    content: Content::One(message::message_of(message::with_target(f, h))),
+                };
+            }
         }
         h += 1;
     }
-    after
+    Placed {
+        answer: DONE,
+        slots: after,
+    }
 }
