@@ -5,8 +5,9 @@ use mathlib.Core.Bool.{Bool, true, false, cond}
 use mathlib.Core.List.{List, [], _∷_}
 use Prim.Native.Nat.{ℕ, _<_}
 use native.Mathlib.Omega.{arith}
-use lib.Dec.{leb}
-use borrow.Author.Tests.{ltb-true, lt-ltb, le-leb, eq-eqb}
+use lib.Dec.{leb, eqb}
+use lib.ListN.{set}
+use borrow.Author.Tests.{eqb-true, ltb-true, lt-ltb, le-leb, eq-eqb, ne-eqb}
 use Rattle.base.specs.Refusals.{done, unless, firstOf, refusedCell, refusedHost, refusedFull}
 use Rattle.base.proofs.Tests.{both, first-next, first-only}
 use Rattle.quorum.specs.Sets.{single, size}
@@ -19,6 +20,7 @@ use Rattle.state.specs.declared.Settings.{Settings}
 use Rattle.state.specs.Limits.{settingsOk}
 use Rattle.host.specs.declared.Host.{Host}
 use Rattle.host.specs.declared.Sent.{Sent}
+use Rattle.host.specs.declared.Stepped.{Stepped}
 use Rattle.host.specs.Steps.{hostOk, quiet, restartRefusal, restarted, restartOf, startRefusal, started, startOf, acted, messageRefusal, messageStep}
 use Rattle.host.proofs.Limits.{SettingsIn, settings-in}
 use Rattle.places.specs.Places.{placesOk, clocksOk}
@@ -28,9 +30,10 @@ use Rattle.slots.specs.declared.Placed.{Placed}
 use Rattle.slots.specs.Slots.{slotCount, isEmpty, slotsOk, slotRefusal, empties, fullRefusal, placed, placedEach, placedTo, placeOf, freed}
 use Rattle.slots.proofs.Laws.{Sendable, slots-in, holds-at}
 use Rattle.cell.specs.declared.Cell.{Cell}
+use Rattle.cell.specs.declared.Answered.{Answered}
 use Rattle.cell.specs.Limits.{hostAt, contentAt, cellOk}
-use Rattle.cell.specs.Events.{answerWith, hostRefusal, messagesIn, stepFull, sentTo, stepped, startStep, startAtRefusal, startAtOf, targetOf, deliverStep, deliverFull, deliverRefusal, delivered, deliverOf, repeatRefusal, repeated, repeatOf}
-use Rattle.cell.specs.Parts.{sentOf, carriedOf, deliveredOf, repeatedOf}
+use Rattle.cell.specs.Events.{answered, answerWith, withHosts, withSlots, hostRefusal, messagesIn, stepFull, sentTo, stepped, startStep, startAtRefusal, startAtOf, targetOf, deliverStep, deliverFull, deliverRefusal, delivered, deliverOf, repeatRefusal, repeated, repeatOf}
+use Rattle.cell.specs.Parts.{sentIn, carriedOf, orSame, deliveredOf, repeatedOf}
 
 -- ---- what the limits tell with no word on lengths
 
@@ -83,15 +86,51 @@ by-slots : (b : Bool) (after before : List Slot) → placedBy b after before .an
 by-slots true after before e = refl
 by-slots false after before e = absurd (omega arith)
 
-pub sent-full : (n : ℕ) (ss : List Slot) (sent : Sent) (receivers : ℕ) → sentOf n ss sent receivers .answer ≡ fullRefusal (messagesIn sent receivers) ss
-unfolding sentOf messagesIn placeOf
-sent-full n ss Sent.Nothing receivers = rw (le-leb 0 (empties ss) (omega arith))
-sent-full n ss (Sent.One m) receivers = by-answer (leb (size receivers) (empties ss)) (placedTo n ss m receivers) ss
+sent-answer : (c : Cell) (sent : Sent) (receivers : ℕ) → sentIn c sent receivers .answer ≡ fullRefusal (messagesIn sent receivers) (c .slots)
+unfolding sentIn messagesIn placeOf
+sent-answer c Sent.Nothing receivers = rw (le-leb 0 (empties (c .slots)) (omega arith))
+sent-answer c (Sent.One m) receivers = by-answer (leb (size receivers) (empties (c .slots))) (placedTo (c .settings .n) (c .slots) m receivers) (c .slots)
 
-pub sent-slots : (n : ℕ) (ss : List Slot) (sent : Sent) (receivers : ℕ) → sentOf n ss sent receivers .answer ≡ done → sentOf n ss sent receivers .slots ≡ sentTo n ss sent receivers
-unfolding sentOf sentTo placeOf
-sent-slots n ss Sent.Nothing receivers e = refl
-sent-slots n ss (Sent.One m) receivers e = by-slots (leb (size receivers) (empties ss)) (placedTo n ss m receivers) ss e
+sent-cell : (c : Cell) (sent : Sent) (receivers : ℕ) → sentIn c sent receivers .answer ≡ done → sentIn c sent receivers .cell ≡ withSlots c (sentTo (c .settings .n) (c .slots) sent receivers)
+unfolding sentIn sentTo placeOf
+sent-cell c Sent.Nothing receivers e = refl
+sent-cell c (Sent.One m) receivers e =
+    ap (withSlots c) (by-slots (leb (size receivers) (empties (c .slots))) (placedTo (c .settings .n) (c .slots) m receivers) (c .slots) e)
+
+-- a step carried into the cell, and its answer 13 or 0
+carried-answer : (c : Cell) (h : ℕ) (step : Stepped) → carriedOf c h step .answer ≡ stepFull (c .slots) step
+unfolding carriedOf
+carried-answer c h step = sent-answer (withHosts c (set (c .hosts) h (step .host))) (step .sent) (step .receivers)
+
+carried-cell : (c : Cell) (h : ℕ) (step : Stepped) → carriedOf c h step .answer ≡ done → carriedOf c h step .cell ≡ stepped c h (c .slots) step
+unfolding carriedOf stepped
+carried-cell c h step e = sent-cell (withHosts c (set (c .hosts) h (step .host))) (step .sent) (step .receivers) e
+
+-- with these slots in place of the cell's own
+carried-outcome : (c : Cell) (ss : List Slot) (h : ℕ) (step : Stepped) → carriedOf (withSlots c ss) h step .answer ≡ done → carriedOf (withSlots c ss) h step .cell ≡ stepped c h ss step
+unfolding stepped
+carried-outcome c ss h step e = carried-cell (withSlots c ss) h step e
+
+-- what was carried out, or the cell as it was
+same-outcome : (c : Cell) (ss : List Slot) (h : ℕ) (step : Stepped) → orSame c (carriedOf (withSlots c ss) h step) ≡ answerWith (stepFull ss step) c (stepped c h ss step)
+same-outcome c ss h step = ap (λ (k : ℕ). answerWith k c (r .cell)) same ∙ go (eqb (stepFull ss step) done) refl (carried-outcome c ss h step)
+  where
+    r : Answered
+    r = carriedOf (withSlots c ss) h step
+
+    same : r .answer ≡ stepFull ss step
+    same = carried-answer (withSlots c ss) h step
+
+    go : (b : Bool) → eqb (stepFull ss step) done ≡ b → (r .answer ≡ done → r .cell ≡ stepped c h ss step)
+        → cond b (answered done (r .cell)) (answered (stepFull ss step) c) ≡ cond b (answered done (stepped c h ss step)) (answered (stepFull ss step) c)
+    go true e f = ap (answered done) (f (same ∙ eqb-true (stepFull ss step) done e))
+    go false e f = refl
+
+pub or-refused : (c : Cell) (r : Answered) → (r .answer ≡ done → ⊥) → orSame c r ≡ answered (r .answer) c
+or-refused c r e = rw (ne-eqb (r .answer) done e)
+
+pub or-done : (c : Cell) (r : Answered) → r .answer ≡ done → orSame c r ≡ r
+or-done c r e = ap (λ (b : Bool). cond b (answered done (r .cell)) (answered (r .answer) c)) (eq-eqb (r .answer) done e) ∙ ap (λ (k : ℕ). answered k (r .cell)) (sym e)
 
 -- a message placed to its own target alone
 own-target : (m : Message) → messageTo m (targetOf m) ≡ m
@@ -131,9 +170,10 @@ unfolding startAtRefusal
 start-left c h d e b r = cell-passed c _ e ∙ host-passed c h _ b ∙ first-next (startRefusal (c .settings) (hostAt c h) d) _ r ∙ first-only (stepFull (c .slots) (startStep c h d))
 
 pub start-carried : (c : Cell) (h d : ℕ) → cellOk c ≡ true → h < c .settings .n → startRefusal (c .settings) (hostAt c h) d ≡ done
-    → startAtOf c h d ≡ carriedOf c h (c .slots) (startStep c h d)
-unfolding startAtOf carriedOf
-start-carried c h d e b r = ap (λ (k : ℕ). answerWith k c (stepped c h (c .slots) (startStep c h d))) (start-left c h d e b r)
+    → startAtOf c h d ≡ orSame c (carriedOf c h (startStep c h d))
+unfolding startAtOf
+start-carried c h d e b r =
+    ap (λ (k : ℕ). answerWith k c (stepped c h (c .slots) (startStep c h d))) (start-left c h d e b r) ∙ sym (same-outcome c (c .slots) h (startStep c h d))
 
 deliver-left : (c : Cell) (i : ℕ) (m : Message) → cellOk c ≡ true → i < slotCount → contentAt c i ≡ Content.One m
     → deliverRefusal c i ≡ stepFull (freed (c .slots) i) (deliverStep c m)
@@ -143,10 +183,11 @@ deliver-left c i m e b f =
     ∙ first-only (stepFull (freed (c .slots) i) (deliverStep c m))
 
 pub deliver-carried : (c : Cell) (i : ℕ) (m : Message) → cellOk c ≡ true → i < slotCount → contentAt c i ≡ Content.One m → deliverOf c i ≡ deliveredOf c i m
-unfolding deliverOf deliveredOf carriedOf delivered
+unfolding deliverOf deliveredOf delivered
 deliver-carried c i m e b f =
     ap (λ (k : ℕ). answerWith k c (delivered c i (contentAt c i))) (deliver-left c i m e b f)
     ∙ ap (λ (t : Content). answerWith (stepFull (freed (c .slots) i) (deliverStep c m)) c (delivered c i t)) f
+    ∙ sym (same-outcome c (freed (c .slots) i) (targetOf m) (deliverStep c m))
 
 repeat-left : (c : Cell) (i : ℕ) (m : Message) → cellOk c ≡ true → i < slotCount → contentAt c i ≡ Content.One m → repeatRefusal c i ≡ fullRefusal 1 (c .slots)
 unfolding repeatRefusal

@@ -3,13 +3,12 @@
 ghost use mathlib.Core.Path.{_≡_};
 ghost use mathlib.Core.Bool.{true};
 ghost use Prim.Native.Nat.{_<_, _≤_};
-ghost use lib.ListN.{set};
 ghost use Rattle.message.specs.Message.{lastTick, numbersOf};
 ghost use Rattle.message.specs.Faults.{faultOf};
 ghost use Rattle.state.specs.Limits.{settingsOk};
 ghost use Rattle.cell.specs.Limits.{cellOk};
-ghost use Rattle.cell.specs.Events.{answered, withHosts, leastSettings, opened, openingOf, advanceAllOf, advanceOneOf, startAtOf, deliverOf, loseOf, repeatOf, restartAtOf, eventOf};
-ghost use Rattle.cell.specs.Parts.{sentOf, carriedOf, deliveredOf, repeatedOf};
+ghost use Rattle.cell.specs.Events.{answered, leastSettings, opened, openingOf, advanceAllOf, advanceOneOf, startAtOf, deliverOf, loseOf, repeatOf, restartAtOf, eventOf};
+ghost use Rattle.cell.specs.Parts.{carriedOf, deliveredOf, repeatedOf};
 use base::DONE;
 use base::REFUSED_CELL;
 use base::REFUSED_HOST;
@@ -22,7 +21,6 @@ use host::Stepped;
 use message::LAST_TICK;
 use message::Message;
 use slots::Content;
-use slots::Placed;
 use slots::SLOTS;
 use slots::Slot;
 use state::Settings;
@@ -55,20 +53,6 @@ fn answered_with(answer: u8, cell: Cell) -> Answered
     ensures { λ r. ⌜ r ≡ answered answer cell ⌝ }
 {
     Answered { answer, cell }
-}
-
-// What a step sends is placed, if it sends anything.
-fn place_sent(slots: [Slot; 96], n: u8, sent: Sent, receivers: u16) -> Placed
-    requires { ⌜ n ≤ 16 ⌝ }
-    ensures { λ r. ⌜ r ≡ sentOf n slots sent receivers ⌝ }
-{
-    match sent {
-        Sent::Nothing => Placed {
-            answer: DONE,
-            slots,
-        },
-        Sent::One(m) => slots::place(slots, n, m, receivers),
-    }
 }
 
 fn opened_with(s: Settings, clock: u64) -> Cell
@@ -129,30 +113,25 @@ impl Cell {
         slots::slots_ok(s.n, slots)
     }
 
-    fn with_host(self, at: usize, h: Host) -> Cell
-        requires { ⌜ at < 9 ⌝ }
-        ensures { λ r. ⌜ r ≡ withHosts self (set (self .hosts) at h) ⌝ }
-    {
-        let mut c = self;
-        c.hosts[at] = h;
-        c
-    }
-
-    // A host's step is carried into the cell with these slots, if there is room for what it sends.
-    fn carried(self, at: usize, slots: [Slot; 96], step: Stepped) -> Answered
+    // A host is replaced, and what it sends is placed; the answer is that of placing.
+    fn carried(self, at: usize, step: Stepped) -> Answered
         requires { ⌜ (at < 9) × (self .settings .n ≤ 16) ⌝ }
-        ensures { λ r. ⌜ r ≡ carriedOf self at slots step ⌝ }
+        ensures { λ r. ⌜ r ≡ carriedOf self at step ⌝ }
     {
         let sent = step.sent;
-        let placed = place_sent(slots, self.settings.n, sent, step.receivers);
-        if placed.answer != DONE {
-            return answered_with(placed.answer, self);
-        }
         let host = step.host;
-        let under_way = placed.slots;
-        let mut c = self.with_host(at, host);
-        c.slots = under_way;
-        answered_with(DONE, c)
+        let mut c = self;
+        c.hosts[at] = host;
+        match sent {
+            Sent::Nothing => answered_with(DONE, c),
+            Sent::One(m) => {
+                let slots = self.slots;
+                let placed = slots::place(slots, self.settings.n, m, step.receivers);
+                let under_way = placed.slots;
+                c.slots = under_way;
+                answered_with(placed.answer, c)
+            }
+        }
     }
 
     pub fn advance_all(self, d: u64) -> Answered
@@ -188,7 +167,8 @@ impl Cell {
             return answered_with(step.answer, self);
         }
         let moved = step.host;
-        let c = self.with_host(host as usize, moved);
+        let mut c = self;
+        c.hosts[host as usize] = moved;
         let hosts = c.hosts;
         if !places::clocks_ok(s, hosts) {
             return answered_with(REFUSED_SPREAD, self);
@@ -211,8 +191,11 @@ impl Cell {
         if step.answer != DONE {
             return answered_with(step.answer, self);
         }
-        let slots = self.slots;
-        self.carried(host as usize, slots, step)
+        let r = self.carried(host as usize, step);
+        if r.answer != DONE {
+            return answered_with(r.answer, self);
+        }
+        r
     }
 
     // The message of slot i is delivered: its slot counts as empty for what its receiver sends.
@@ -223,11 +206,15 @@ impl Cell {
         let target = message::numbers_of(m).target as usize;
         let h = self.hosts[target];
         let step = h.receive(self.settings, m);
-        let mut slots = self.slots;
-        slots[i] = Slot {
+        let mut c = self;
+        c.slots[i] = Slot {
             content: Content::Empty,
         };
-        self.carried(target, slots, step)
+        let r = c.carried(target, step);
+        if r.answer != DONE {
+            return answered_with(r.answer, self);
+        }
+        r
     }
 
     pub fn deliver(self, slot: u8) -> Answered
@@ -321,7 +308,9 @@ impl Cell {
             return answered_with(step.answer, self);
         }
         let restarted = step.host;
-        answered_with(DONE, self.with_host(host as usize, restarted))
+        let mut c = self;
+        c.hosts[host as usize] = restarted;
+        answered_with(DONE, c)
     }
 
     // Any event.

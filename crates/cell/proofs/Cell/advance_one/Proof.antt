@@ -54,14 +54,17 @@ returns-3 c =
     let e : advanceRefusal s h (a .d) ≡ p .result .answer = sym (ap (λ (x : Stepped). x .answer) (p .ensures) ∙ answer-advance s h (a .d)) in
     rw (c .answered-with3 .ensures, ← c .before .before .before .before .before .before .before .before .before .within-limits .ensures, not-false (c .before .before .before .before .before .before .before .before .before .within-limits .result) (c .before .before .before .before .before .before .before .before .if1 .left), lt-ltb _ _ (c .before .before .before .before .before .if2 .left), e, ne-eqb _ _ (c .before .if3 .taken), ne-eqb _ _ (c .before .if3 .taken))
 
-with-host-requires : tie.Need-with-host-requires
-with-host-requires c κs =
+mul-moved : tie.Need-mul-moved
+mul-moved c = search needs
+
+element-set-from-moved : tie.Need-element-set-from-moved
+element-set-from-moved c =
     let i = n-of (c .before .before .before .before .before .before .before .before .before .before .args .t1) (sym (c .before .before .before .before .before .before .before .before .before .within-limits .ensures) ∙ not-false (c .before .before .before .before .before .before .before .before .before .within-limits .result) (c .before .before .before .before .before .before .before .before .if1 .left)) in
     omega (arith, i .few, c .before .before .before .before .before .if2 .left)
 
 clocks-ok-requires : tie.Need-clocks-ok-requires
 clocks-ok-requires c κs =
-    let i = n-of (c .before .before .before .before .before .before .before .before .before .before .before .before .args .t1) (sym (c .before .before .before .before .before .before .before .before .before .before .before .within-limits .ensures) ∙ not-false (c .before .before .before .before .before .before .before .before .before .before .before .within-limits .result) (c .before .before .before .before .before .before .before .before .before .before .if1 .left)) in
+    let i = n-of (c .before .before .before .before .before .before .before .before .before .before .before .args .t1) (sym (c .before .before .before .before .before .before .before .before .before .before .within-limits .ensures) ∙ not-false (c .before .before .before .before .before .before .before .before .before .before .within-limits .result) (c .before .before .before .before .before .before .before .before .before .if1 .left)) in
     (i .some, i .few)
 
 answered-with-requires-4 : tie.Need-answered-with-requires-4
@@ -70,14 +73,13 @@ answered-with-requires-4 c κs = search needs
 returns-4 : tie.Need-returns-4
 unfolding advanceOneOf advanceOneRefusal advancedOne firstOf
 returns-4 c =
-    let a = c .before .before .before .before .before .before .before .before .before .before .before .before .before .before .before .args in
+    let a = c .before .before .before .before .before .before .before .before .before .before .before .before .before .before .args in
     let s = a .t1 .settings in
     let h = hostAt (a .t1) (a .host) in
-    let p = c .before .before .before .before .before .before .before .before .advance in
-    let e : advanceRefusal s h (a .d) ≡ done = sym (ap (λ (x : Stepped). x .answer) (p .ensures) ∙ answer-advance s h (a .d)) ∙ c .before .before .before .before .before .before .if3 .left in
+    let p = c .before .before .before .before .before .before .before .advance in
+    let e : advanceRefusal s h (a .d) ≡ done = sym (ap (λ (x : Stepped). x .answer) (p .ensures) ∙ answer-advance s h (a .d)) ∙ c .before .before .before .before .before .if3 .left in
     let q : p .result .host ≡ advanced h (a .d) = ap (λ (x : Stepped). x .host) (p .ensures ∙ advance-done s h (a .d) e) in
-    let k = c .before .before .clocks-ok .ensures in
-    rw (c .answered-with4 .ensures, ← c .before .before .before .before .before .before .before .before .before .before .before .before .before .before .within-limits .ensures, not-false (c .before .before .before .before .before .before .before .before .before .before .before .before .before .before .within-limits .result) (c .before .before .before .before .before .before .before .before .before .before .before .before .before .if1 .left), lt-ltb _ _ (c .before .before .before .before .before .before .before .before .before .before .if2 .left), e, ← q, ← (rw (c .before .before .before .before .with-host .ensures) at k), not-true (c .before .before .clocks-ok .result) (c .before .if4 .taken))
+    rw (c .answered-with4 .ensures, ← c .before .before .before .before .before .before .before .before .before .before .before .before .before .within-limits .ensures, not-false (c .before .before .before .before .before .before .before .before .before .before .before .before .before .within-limits .result) (c .before .before .before .before .before .before .before .before .before .before .before .before .if1 .left), lt-ltb _ _ (c .before .before .before .before .before .before .before .before .before .if2 .left), e, ← q, ← c .before .before .clocks-ok .ensures, not-true (c .before .before .clocks-ok .result) (c .before .if4 .taken))
 
 answered-with-requires-5 : tie.Need-answered-with-requires-5
 answered-with-requires-5 c κs = search needs
@@ -85,14 +87,13 @@ answered-with-requires-5 c κs = search needs
 returns-5 : tie.Need-returns-5
 unfolding advanceOneOf advanceOneRefusal advancedOne firstOf
 returns-5 c =
-    let a = c .before .before .before .before .before .before .before .before .before .before .before .before .before .before .before .args in
+    let a = c .before .before .before .before .before .before .before .before .before .before .before .before .before .before .args in
     let s = a .t1 .settings in
     let h = hostAt (a .t1) (a .host) in
-    let p = c .before .before .before .before .before .before .before .before .advance in
-    let e : advanceRefusal s h (a .d) ≡ done = sym (ap (λ (x : Stepped). x .answer) (p .ensures) ∙ answer-advance s h (a .d)) ∙ c .before .before .before .before .before .before .if3 .left in
+    let p = c .before .before .before .before .before .before .before .advance in
+    let e : advanceRefusal s h (a .d) ≡ done = sym (ap (λ (x : Stepped). x .answer) (p .ensures) ∙ answer-advance s h (a .d)) ∙ c .before .before .before .before .before .if3 .left in
     let q : p .result .host ≡ advanced h (a .d) = ap (λ (x : Stepped). x .host) (p .ensures ∙ advance-done s h (a .d) e) in
-    let k = c .before .before .clocks-ok .ensures in
-    rw (c .answered-with5 .ensures, c .before .before .before .before .with-host .ensures, ← c .before .before .before .before .before .before .before .before .before .before .before .before .before .before .within-limits .ensures, not-false (c .before .before .before .before .before .before .before .before .before .before .before .before .before .before .within-limits .result) (c .before .before .before .before .before .before .before .before .before .before .before .before .before .if1 .left), lt-ltb _ _ (c .before .before .before .before .before .before .before .before .before .before .if2 .left), e, ← q, ← (rw (c .before .before .before .before .with-host .ensures) at k), not-false (c .before .before .clocks-ok .result) (c .before .if4 .left))
+    rw (c .answered-with5 .ensures, ← c .before .before .before .before .before .before .before .before .before .before .before .before .before .within-limits .ensures, not-false (c .before .before .before .before .before .before .before .before .before .before .before .before .before .within-limits .result) (c .before .before .before .before .before .before .before .before .before .before .before .before .if1 .left), lt-ltb _ _ (c .before .before .before .before .before .before .before .before .before .if2 .left), e, ← q, ← c .before .before .clocks-ok .ensures, not-false (c .before .before .clocks-ok .result) (c .before .if4 .left))
 
 pub advance-one-spec : {M : Type 1} → statement M
 advance-one-spec =
@@ -108,7 +109,8 @@ advance-one-spec =
     advance-requires
     answered-with-requires-3
     returns-3
-    with-host-requires
+    mul-moved
+    element-set-from-moved
     clocks-ok-requires
     answered-with-requires-4
     returns-4

@@ -1,53 +1,47 @@
-use mathlib.Core.Path.{_≡_, sym, ap, _∙_}
-use borrow.Author.Tests.{eq-eqb, ne-eqb}
-use Rattle.base.specs.Refusals.{done}
-use Rattle.slots.specs.declared.Placed.{Placed}
-use Rattle.cell.specs.Events.{stepFull, sentTo, stepped}
-use Rattle.cell.specs.Parts.{carriedOf}
-use Rattle.cell.proofs.Methods.{sent-full, sent-slots}
+use Rattle.cell.specs.Parts.{sentIn, carriedOf}
 use borrow.Author.Needs.{needs}
 use Rattle.cell.proofs.Cell.carried.Statement.{statement}
 use Rattle.cell.proofs.Cell.carried.Tie as tie
 
-place-sent-requires : tie.Need-place-sent-requires
-place-sent-requires c κs = search needs
+mul-host : tie.Need-mul-host
+mul-host c = search needs
+
+element-set-from-host : tie.Need-element-set-from-host
+element-set-from-host c = search needs
+
+enum-told : tie.Need-enum-told
+enum-told c = search needs
 
 answered-with-requires : tie.Need-answered-with-requires
 answered-with-requires c κs = search needs
 
-returns : tie.Need-returns
-unfolding carriedOf
-returns c =
-    let a = c .before .before .before .before .args in
-    let p = c .before .before .before .place-sent in
-    let e : stepFull (a .slots) (a .step) ≡ p .result .answer = sym (ap (λ (x : Placed). x .answer) (p .ensures) ∙ sent-full (a .self .settings .n) (a .slots) (a .step .sent) (a .step .receivers)) in
-    rw (c .answered-with .ensures, e, ne-eqb _ _ (c .before .if1 .taken))
+enum-known-sent : tie.Need-enum-known-sent
+enum-known-sent c = search needs
 
-with-host-requires : tie.Need-with-host-requires
-with-host-requires c κs = search needs
+place-requires : tie.Need-place-requires
+place-requires c κs = search needs
 
 answered-with-requires-2 : tie.Need-answered-with-requires-2
 answered-with-requires-2 c κs = search needs
 
+returns : tie.Need-returns
+unfolding carriedOf sentIn
+returns c = rw (c .answered-with .ensures, c .before .enum-told .given .1)
+
 returns-2 : tie.Need-returns-2
-unfolding carriedOf stepped
-returns-2 c =
-    let a = c .before .before .before .before .before .before .before .args in
-    let p = c .before .before .before .before .before .before .place-sent in
-    let n = a .self .settings .n in
-    let z = c .before .before .before .before .if1 .left in
-    let e : stepFull (a .slots) (a .step) ≡ done = sym (ap (λ (x : Placed). x .answer) (p .ensures) ∙ sent-full n (a .slots) (a .step .sent) (a .step .receivers)) ∙ z in
-    let q : p .result .slots ≡ sentTo n (a .slots) (a .step .sent) (a .step .receivers) =
-    ap (λ (x : Placed). x .slots) (p .ensures) ∙ sent-slots n (a .slots) (a .step .sent) (a .step .receivers) (ap (λ (x : Placed). x .answer) (sym (p .ensures)) ∙ z) in
-    rw (c .answered-with2 .ensures, c .before .with-host .ensures, eq-eqb (stepFull (a .slots) (a .step)) done e, q)
+unfolding carriedOf sentIn
+returns-2 c = rw (c .answered-with2 .ensures, c .before .before .place .ensures, c .before .before .before .before .before .sent .given .1)
 
 pub carried-spec : {M : Type 1} → statement M
 carried-spec =
     tie.close
     (tie.spec
-    place-sent-requires
+    mul-host
+    element-set-from-host
+    enum-told
     answered-with-requires
-    returns
-    with-host-requires
+    enum-known-sent
+    place-requires
     answered-with-requires-2
+    returns
     returns-2)

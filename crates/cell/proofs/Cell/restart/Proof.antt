@@ -53,8 +53,11 @@ returns-3 c =
     let e : restartRefusal s h ≡ p .result .answer = sym (ap (λ (x : Stepped). x .answer) (p .ensures) ∙ answer-restart s h) in
     rw (c .answered-with3 .ensures, ← c .before .before .before .before .before .before .before .before .before .within-limits .ensures, not-false (c .before .before .before .before .before .before .before .before .before .within-limits .result) (c .before .before .before .before .before .before .before .before .if1 .left), lt-ltb _ _ (c .before .before .before .before .before .if2 .left), e, ne-eqb _ _ (c .before .if3 .taken), ne-eqb _ _ (c .before .if3 .taken))
 
-with-host-requires : tie.Need-with-host-requires
-with-host-requires c κs =
+mul-restarted : tie.Need-mul-restarted
+mul-restarted c = search needs
+
+element-set-from-restarted : tie.Need-element-set-from-restarted
+element-set-from-restarted c =
     let i = n-of (c .before .before .before .before .before .before .before .before .before .before .args .t1) (sym (c .before .before .before .before .before .before .before .before .before .within-limits .ensures) ∙ not-false (c .before .before .before .before .before .before .before .before .before .within-limits .result) (c .before .before .before .before .before .before .before .before .if1 .left)) in
     omega (arith, i .few, c .before .before .before .before .before .if2 .left)
 
@@ -64,13 +67,13 @@ answered-with-requires-4 c κs = search needs
 returns-4 : tie.Need-returns-4
 unfolding restartAtOf restartAtRefusal firstOf
 returns-4 c =
-    let a = c .before .before .before .before .before .before .before .before .before .before .before .before .args in
+    let a = c .before .before .before .before .before .before .before .before .before .before .before .args in
     let s = a .t1 .settings in
     let h = hostAt (a .t1) (a .host) in
-    let p = c .before .before .before .before .before .restart in
-    let e : restartRefusal s h ≡ done = sym (ap (λ (x : Stepped). x .answer) (p .ensures) ∙ answer-restart s h) ∙ c .before .before .before .if3 .left in
+    let p = c .before .before .before .before .restart in
+    let e : restartRefusal s h ≡ done = sym (ap (λ (x : Stepped). x .answer) (p .ensures) ∙ answer-restart s h) ∙ c .before .before .if3 .left in
     let q : p .result .host ≡ restarted s h = ap (λ (x : Stepped). x .host) (p .ensures ∙ restart-done s h e) in
-    rw (c .answered-with4 .ensures, c .before .with-host .ensures, ← c .before .before .before .before .before .before .before .before .before .before .before .within-limits .ensures, not-false (c .before .before .before .before .before .before .before .before .before .before .before .within-limits .result) (c .before .before .before .before .before .before .before .before .before .before .if1 .left), lt-ltb _ _ (c .before .before .before .before .before .before .before .if2 .left), e, q)
+    rw (c .answered-with4 .ensures, ← c .before .before .before .before .before .before .before .before .before .before .within-limits .ensures, not-false (c .before .before .before .before .before .before .before .before .before .before .within-limits .result) (c .before .before .before .before .before .before .before .before .before .if1 .left), lt-ltb _ _ (c .before .before .before .before .before .before .if2 .left), e, q)
 
 pub restart-spec : {M : Type 1} → statement M
 restart-spec =
@@ -86,6 +89,7 @@ restart-spec =
     restart-requires
     answered-with-requires-3
     returns-3
-    with-host-requires
+    mul-restarted
+    element-set-from-restarted
     answered-with-requires-4
     returns-4)

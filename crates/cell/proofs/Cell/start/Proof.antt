@@ -1,4 +1,5 @@
 use mathlib.Core.Path.{_≡_, sym, ap, _∙_}
+use mathlib.Core.Bool.{true}
 use native.Mathlib.Omega.{arith}
 use borrow.Author.Tests.{not-true, not-false, ne-eqb, lt-ltb, le-ltb}
 use Rattle.base.specs.Refusals.{done, firstOf}
@@ -7,12 +8,23 @@ use Rattle.host.specs.Steps.{startRefusal}
 use Rattle.host.proofs.Kept.{answer-start}
 use Rattle.cell.specs.Limits.{hostAt, cellOk}
 use Rattle.cell.specs.Events.{startAtRefusal, startAtOf}
-use Rattle.cell.specs.Parts.{carriedOf}
-use Rattle.cell.proofs.Methods.{n-of, start-done, start-carried}
-use mathlib.Core.Bool.{true}
+use Rattle.cell.specs.Parts.{carriedOf, orSame}
+use Rattle.cell.proofs.Methods.{n-of, start-done, start-carried, or-refused, or-done}
 use borrow.Author.Needs.{needs}
 use Rattle.cell.proofs.Cell.start.Statement.{statement}
 use Rattle.cell.proofs.Cell.start.Tie as tie
+
+-- what is carried out is the start of the host, where nothing but 13 is left to refuse it
+step-carried : (c : tie.After-carried) → startAtOf (c .before .before .before .before .before .before .before .before .before .before .args .t1) (c .before .before .before .before .before .before .before .before .before .before .args .host) (c .before .before .before .before .before .before .before .before .before .before .args .duration) ≡ orSame (c .before .before .before .before .before .before .before .before .before .before .args .t1) (c .carried .result)
+step-carried c =
+    let a = c .before .before .before .before .before .before .before .before .before .before .args in
+    let s = a .t1 .settings in
+    let h = hostAt (a .t1) (a .host) in
+    let p = c .before .before .before .start in
+    let o : cellOk (a .t1) ≡ true = sym (c .before .before .before .before .before .before .before .before .before .within-limits .ensures) ∙ not-false (c .before .before .before .before .before .before .before .before .before .within-limits .result) (c .before .before .before .before .before .before .before .before .if1 .left) in
+    let e : startRefusal s h (a .duration) ≡ done = sym (ap (λ (x : Stepped). x .answer) (p .ensures) ∙ answer-start s h (a .duration)) ∙ c .before .if3 .left in
+    start-carried (a .t1) (a .host) (a .duration) o (c .before .before .before .before .before .if2 .left) e
+    ∙ ap (orSame (a .t1)) (sym (c .carried .ensures ∙ ap (carriedOf (a .t1) (a .host)) (p .ensures ∙ start-done s h (a .duration) e)))
 
 within-limits-requires : tie.Need-within-limits-requires
 within-limits-requires c κs = search needs
@@ -57,18 +69,17 @@ returns-3 c =
 
 carried-requires : tie.Need-carried-requires
 carried-requires c κs =
-    let i = n-of (c .before .before .before .before .before .before .before .before .before .before .args .t1) (sym (c .before .before .before .before .before .before .before .before .before .within-limits .ensures) ∙ not-false (c .before .before .before .before .before .before .before .before .before .within-limits .result) (c .before .before .before .before .before .before .before .before .if1 .left)) in
-    (omega (arith, i .few, c .before .before .before .before .before .if2 .left), omega (arith, i .few))
+    let i = n-of (c .before .before .before .before .before .before .before .before .before .args .t1) (sym (c .before .before .before .before .before .before .before .before .within-limits .ensures) ∙ not-false (c .before .before .before .before .before .before .before .before .within-limits .result) (c .before .before .before .before .before .before .before .if1 .left)) in
+    (omega (arith, i .few, c .before .before .before .before .if2 .left), omega (arith, i .few))
+
+answered-with-requires-4 : tie.Need-answered-with-requires-4
+answered-with-requires-4 c κs = search needs
 
 returns-4 : tie.Need-returns-4
-returns-4 c =
-    let a = c .before .before .before .before .before .before .before .before .before .before .before .args in
-    let s = a .t1 .settings in
-    let h = hostAt (a .t1) (a .host) in
-    let p = c .before .before .before .before .start in
-    let o : cellOk (a .t1) ≡ true = sym (c .before .before .before .before .before .before .before .before .before .before .within-limits .ensures) ∙ not-false (c .before .before .before .before .before .before .before .before .before .before .within-limits .result) (c .before .before .before .before .before .before .before .before .before .if1 .left) in
-    let e : startRefusal s h (a .duration) ≡ done = sym (ap (λ (x : Stepped). x .answer) (p .ensures) ∙ answer-start s h (a .duration)) ∙ c .before .before .if3 .left in
-    c .carried .ensures ∙ ap (carriedOf (a .t1) (a .host) (a .t1 .slots)) (p .ensures ∙ start-done s h (a .duration) e) ∙ sym (start-carried (a .t1) (a .host) (a .duration) o (c .before .before .before .before .before .before .if2 .left) e)
+returns-4 c = c .answered-with4 .ensures ∙ sym (step-carried (c .before .before .before) ∙ or-refused (c .before .before .before .before .before .before .before .before .before .before .before .before .before .args .t1) (c .before .before .before .carried .result) (c .before .if4 .taken))
+
+returns-5 : tie.Need-returns-5
+returns-5 c = sym (step-carried (c .before .before) ∙ or-done (c .before .before .before .before .before .before .before .before .before .before .before .before .args .t1) (c .before .before .carried .result) (c .if4 .left))
 
 pub start-spec : {M : Type 1} → statement M
 start-spec =
@@ -85,4 +96,6 @@ start-spec =
     answered-with-requires-3
     returns-3
     carried-requires
-    returns-4)
+    answered-with-requires-4
+    returns-4
+    returns-5)
