@@ -206,11 +206,11 @@ impl Cell {
         let target = message::numbers_of(m).target as usize;
         let h = self.hosts[target];
         let step = h.receive(self.settings, m);
-        let mut c = self;
-        c.slots[i] = Slot {
+        let mut freed = self;
+        freed.slots[i] = Slot {
             content: Content::Empty,
         };
-        let r = c.carried(target, step);
+        let r = freed.carried(target, step);
         if r.answer != DONE {
             return answered_with(r.answer, self);
         }

@@ -93,9 +93,9 @@ fn lowest_in(slots: [Slot; 96]) -> usize
 {
     let mut i: usize = 0;
     while i < SLOTS {
-        let s = slots[i];
-        let c = s.content;
-        if is_empty(c) {
+        let held = slots[i];
+        let content = held.content;
+        if is_empty(content) {
             return i;
         }
         i += 1;

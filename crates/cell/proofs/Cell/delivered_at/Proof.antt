@@ -47,8 +47,8 @@ receive-requires c κs = search needs
 mul-t11 : tie.Need-mul-t11
 mul-t11 c = search needs
 
-element-set-from-c : tie.Need-element-set-from-c
-element-set-from-c c = search needs
+element-set-from-freed : tie.Need-element-set-from-freed
+element-set-from-freed c = search needs
 
 carried-requires : tie.Need-carried-requires
 carried-requires c κs =
@@ -77,7 +77,7 @@ delivered-at-spec =
     element-copy-out-h
     receive-requires
     mul-t11
-    element-set-from-c
+    element-set-from-freed
     carried-requires
     answered-with-requires
     returns
