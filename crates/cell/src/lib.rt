@@ -125,8 +125,8 @@ impl Cell {
         match sent {
             Sent::Nothing => answered_with(DONE, c),
             Sent::One(m) => {
-                let slots = self.slots;
-                let placed = slots::place(slots, self.settings.n, m, step.receivers);
+                let slots = c.slots;
+                let placed = slots::place(slots, c.settings.n, m, step.receivers);
                 let under_way = placed.slots;
                 c.slots = under_way;
                 answered_with(placed.answer, c)
