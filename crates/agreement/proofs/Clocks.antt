@@ -17,8 +17,9 @@ use Rattle.cell.specs.Limits.{hostAt, contentAt}
 use Rattle.cell.specs.Events.{stepped, advancedAll, advancedOne, startStep, targetOf, deliverStep, delivered, repeated, eventOf}
 use Rattle.cell.specs.Runs.{opening, run}
 use Rattle.cell.proofs.Limits.{cell-in}
-use Rattle.cell.proofs.Events.{afterOf, by-outcome, by-place}
-use Rattle.agreement.proofs.Stays.{Stays, stays-started, stays-acted}
+use Rattle.cell.proofs.Events.{afterOf, by-outcome}
+use Rattle.base.proofs.Lists.{by-place}
+use Rattle.host.proofs.Stays.{Stays, stays-started, stays-acted}
 use Rattle.agreement.proofs.Kept.{opening-in, kept-run}
 
 each-rises : (n d : ℕ) (hs : List Host) (k : ℕ) → getD hs k blankHost .clock ≤ getD (eachHost n (λ h. advanced h d) hs) k blankHost .clock

@@ -25,9 +25,8 @@ use Rattle.state.specs.Limits.{settingsOk}
 use Rattle.host.specs.declared.Host.{Host}
 use Rattle.host.specs.declared.Stepped.{Stepped}
 use Rattle.host.specs.Steps.{quiet, advanceRefusal, advanced, restarted, startRefusal}
-use Rattle.state.specs.Blank.{blankState}
 use Rattle.host.proofs.Limits.{settings-in}
-use Rattle.places.specs.Places.{blankHost, clocksOk, newHost, eachHost}
+use Rattle.places.specs.Places.{unwaited, blankHost, clocksOk, newHost, eachHost}
 use Rattle.places.proofs.Limits.{clocks-in}
 use Rattle.places.proofs.Each.{each-below}
 use Rattle.slots.specs.declared.Content.{Content}
@@ -42,7 +41,8 @@ use Rattle.cell.specs.Limits.{hostAt, contentAt, cellOk}
 use Rattle.cell.specs.Events.{withHosts, withSlots, sentTo, stepped, opened, advancedAll, advancedOne, advanceOneRefusal, startStep, startAtRefusal, targetOf, deliverStep, delivered, repeated, restartAtRefusal, eventOf}
 use Rattle.cell.specs.Runs.{opening, run}
 use Rattle.cell.proofs.Limits.{Sized, CellIn, cell-in, within}
-use Rattle.cell.proofs.Events.{refusalOf, afterOf, by-outcome, by-place, holds-sent}
+use Rattle.cell.proofs.Events.{refusalOf, afterOf, by-outcome, holds-sent}
+use Rattle.base.proofs.Lists.{by-place}
 use Rattle.theory.specs.Numbers as N
 use Rattle.theory.specs.Model as M
 use Rattle.theory.specs.Model.{World, Aged, aged, age, Reach, here, then}
@@ -99,10 +99,10 @@ module _ {s : Settings} {c : Cell} {w : World (setup s)} (x : Explained s c w) w
 
 -- ---- time
 
--- k is h some time later
-record Older (s : Settings) (h k : Host) : Type 0 where
-  up : h .clock ≤ k .clock
-  ages : Aged (h .clock) (k .clock) (asHost s h) (asHost s k)
+-- k is h some time later: the relation by which an advance of a host enters
+pub record Older (s : Settings) (h k : Host) : Type 0 where
+  pub up : h .clock ≤ k .clock
+  pub ages : Aged (h .clock) (k .clock) (asHost s h) (asHost s k)
 
 older-same : (s : Settings) (h : Host) → Older s h h
 older-same s h = record {
@@ -148,7 +148,7 @@ module _ {s : Settings} {c : Cell} {w : World (setup s)} (x : Explained s c w) w
   nameless v = record { wait = v .wait; promised = v .promised; last = v .last; accepted = v .accepted; round = v .round; named = none }
 
   -- the cell's hosts are older: so is the world. What other numbers name is dropped, and their clocks follow host 0's.
-  explained-age : 1 ≤ s .n → (hs : List Host) → ((h : ℕ) → h < s .n → Older s (hostAt c h) (getD hs h blankHost))
+  pub explained-age : 1 ≤ s .n → (hs : List Host) → ((h : ℕ) → h < s .n → Older s (hostAt c h) (getD hs h blankHost))
       → ((h k : ℕ) → h < s .n → k < s .n → getD hs h blankHost .clock ≤ getD hs k blankHost .clock + s .spread) → Next s w (withHosts c hs)
   explained-age first hs older near = record {
     now = aged w clock host;
@@ -293,7 +293,7 @@ explained-run {s} {c} (e ∷ es) z k x =
 
 -- ---- opening
 
-opened-host : (s : Settings) (clock h : ℕ) → s .n ≤ 9 → h < s .n → hostAt (opened s clock) h ≡ restarted s (record { number = h; clock = clock; wait = 0; state = blankState })
+opened-host : (s : Settings) (clock h : ℕ) → s .n ≤ 9 → h < s .n → hostAt (opened s clock) h ≡ restarted s (unwaited clock h)
 unfolding newHost
 opened-host s clock h few b = opened-at s clock h few ∙ rw (lt-ltb h (s .n) b)
 

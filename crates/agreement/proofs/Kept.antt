@@ -23,7 +23,7 @@ use Rattle.state.specs.Blank.{blankState}
 use Rattle.host.proofs.Limits.{settings-in, host-in}
 use Rattle.host.proofs.Writable.{writable-each}
 use Rattle.host.proofs.Kept.{Fine, fine-restarted, fine-acted, done-advance, done-restart, done-start}
-use Rattle.places.specs.Places.{blankHost, clocksOk, newHost, eachHost, advancesRefusal}
+use Rattle.places.specs.Places.{unwaited, blankHost, clocksOk, newHost, eachHost, advancesRefusal}
 use Rattle.places.proofs.Limits.{clocks-in}
 use Rattle.places.proofs.Each.{length-each, each-below, each-above}
 use Rattle.slots.specs.declared.Slot.{Slot}
@@ -38,8 +38,9 @@ use Rattle.cell.specs.Limits.{hostAt, contentAt, cellOk}
 use Rattle.cell.specs.Events.{answered, withHosts, withSlots, sentTo, stepped, openingRefusal, opened, leastSettings, openingOf, advanceAllRefusal, advancedAll, advancedOne, advanceOneRefusal, startStep, startAtRefusal, targetOf, deliverStep, delivered, repeated, restartAtRefusal, eventOf}
 use Rattle.cell.specs.Runs.{opening, run}
 use Rattle.cell.proofs.Limits.{Sized, cell-in, out-cell, within}
-use Rattle.cell.proofs.Events.{refusalOf, afterOf, by-outcome, by-place, length-sent, holds-sent}
-use Rattle.agreement.proofs.Stays.{Stays, stays-started, stays-acted}
+use Rattle.cell.proofs.Events.{refusalOf, afterOf, by-outcome, length-sent, holds-sent}
+use Rattle.base.proofs.Lists.{by-place}
+use Rattle.host.proofs.Stays.{Stays, stays-started, stays-acted}
 
 -- the sizes of a cell, and its limits
 abbrev pub Sound : Cell → Type 0
@@ -85,7 +86,7 @@ new-fits : (s : Settings) (clock i : ℕ) → settingsOk s ≡ true → clock �
 unfolding newHost restarted
 new-fits s clock i e t b =
     rw (lt-ltb i (s .n) b)
-    (refl, refl, fine-restarted s (record { number = i; clock = clock; wait = 0; state = blankState }) (record { settings = e; number = b; clock = t; wait = omega arith; state = blank-fits s i }) .kept)
+    (refl, refl, fine-restarted s (unwaited clock i) (record { settings = e; number = b; clock = t; wait = omega arith; state = blank-fits s i }) .kept)
 
 opened-in : (s : Settings) (clock : ℕ) → settingsOk s ≡ true → clock ≤ lastTick → Sound (opened s clock)
 unfolding opened

@@ -1,6 +1,5 @@
 pub mod Map
 pub mod Turns
-pub mod Stays
 pub mod Kept
 pub mod Numbers
 pub mod Clocks

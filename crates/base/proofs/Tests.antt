@@ -19,6 +19,10 @@ pub both : (a b : Bool) → (a && b) ≡ true → (a ≡ true) × (b ≡ true)
 both true b e = (refl, e)
 both false b e = true-false (sym e)
 
+pub and-true : (a b : Bool) → a ≡ true → b ≡ true → (a && b) ≡ true
+and-true true b p q = q
+and-true false b p q = p
+
 -- a claim about a choice, by the test
 pub by-test : {A : Type 0} (P : A → Type 0) (b : Bool) (x y : A) → (b ≡ true → P x) → (b ≡ false → P y) → P (cond b x y)
 by-test P true x y f g = f refl
@@ -73,14 +77,10 @@ unless-passed b k ks n e = let p = first-passed (unless b k) ks e in (go b (p .0
     go true q = refl
     go false q = absurd (eqb-false k done n q)
 
--- a number that refuses nothing is passed over, any other is the answer, and the last is what it is
+-- a number that refuses nothing is passed over, and the last one is the answer whatever it is
 pub first-next : (k : ℕ) (ks : List ℕ) → k ≡ done → firstOf (k ∷ ks) ≡ firstOf ks
 unfolding firstOf
 first-next k ks e = rw e
-
-pub first-here : (k : ℕ) (ks : List ℕ) → eqb k done ≡ false → firstOf (k ∷ ks) ≡ k
-unfolding firstOf
-first-here k ks e = rw e
 
 pub first-only : (k : ℕ) → firstOf (k ∷ []) ≡ k
 unfolding firstOf

@@ -1,12 +1,13 @@
 -- Every event in one form, what is refused and what is done apart; that the settings stay; and laws of the parts of the cell
 -- afterwards: one host replaced, what a step sends. Assumes nothing.
-use mathlib.Core.Path.{_≡_, refl, sym, ap}
-use mathlib.Core.List.{List, [], _∷_}
-use Prim.Native.Nat.{ℕ, zero, suc}
+use mathlib.Core.Path.{_≡_, refl, sym}
+use mathlib.Core.List.{List}
+use Prim.Native.Nat.{ℕ}
 use lib.Dec.{eqb}
-use lib.ListN.{length, getD, set}
+use lib.ListN.{length, set}
 use borrow.Author.Tests.{eqb-true, eqb-false}
 use Rattle.base.specs.Refusals.{done}
+use Rattle.base.proofs.Lists.{all-map}
 use Rattle.base.proofs.Tests.{by-test}
 use Rattle.quorum.specs.Sets.{Member, members}
 use Rattle.quorum.proofs.Laws.{members-all}
@@ -17,7 +18,7 @@ use Rattle.host.specs.Steps.{restarted}
 use Rattle.slots.specs.declared.Slot.{Slot}
 use Rattle.slots.specs.declared.Content.{Content}
 use Rattle.slots.specs.Slots.{freed}
-use Rattle.slots.proofs.Laws.{Holds, all-map, holds-placed-each, length-placed-each}
+use Rattle.slots.proofs.Laws.{Holds, holds-placed-each, length-placed-each}
 use Rattle.cell.specs.declared.Cell.{Cell}
 use Rattle.cell.specs.declared.Event.{Event}
 use Rattle.cell.specs.declared.Event.the-variants.{AdvanceAll, AdvanceOne, Start, Deliver, Lose, Repeat, Restart}
@@ -90,15 +91,6 @@ after-settings c (Restart h) = refl
 
 pub settings-same : (c : Cell) (e : Event) → eventOf c e .cell .settings ≡ c .settings
 settings-same c e = by-outcome (λ (x : Answered). x .cell .settings ≡ c .settings) c e (λ _. after-settings c e) (λ _. refl)
-
--- ---- one element replaced
-
-pub by-place : {A : Type 0} (P : A → Type 0) (xs : List A) (h : ℕ) (x : A) (k : ℕ) (d : A) → (k ≡ h → P x) → P (getD xs k d) → P (getD (set xs h x) k d)
-by-place P [] h x k d p q = q
-by-place P (y ∷ xs) zero x zero d p q = p refl
-by-place P (y ∷ xs) zero x (suc k) d p q = q
-by-place P (y ∷ xs) (suc h) x zero d p q = q
-by-place P (y ∷ xs) (suc h) x (suc k) d p q = by-place P xs h x k d (λ e. p (ap suc e)) q
 
 -- ---- what a step sends
 

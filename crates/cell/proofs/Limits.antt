@@ -10,7 +10,7 @@ use Rattle.base.proofs.Tests.{both}
 use Rattle.state.specs.Limits.{settingsOk}
 use Rattle.host.specs.Steps.{hostOk}
 use Rattle.host.proofs.Limits.{settings-in}
-use Rattle.host.proofs.Writable.{and-true}
+use Rattle.base.proofs.Tests.{and-true}
 use Rattle.slots.specs.Slots.{slotsOk}
 use Rattle.slots.proofs.Laws.{Holds, Sendable, slots-in, out-slots}
 use Rattle.cell.specs.declared.Cell.{Cell}

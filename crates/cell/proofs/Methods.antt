@@ -11,17 +11,16 @@ use borrow.Author.Tests.{eqb-true, ltb-true, lt-ltb, le-leb, eq-eqb, ne-eqb}
 use Rattle.base.specs.Refusals.{done, unless, firstOf, refusedCell, refusedHost, refusedFull}
 use Rattle.base.proofs.Tests.{both, first-next, first-only}
 use Rattle.quorum.specs.Sets.{single, size}
-use Rattle.quorum.proofs.Laws.{members-single, size-single}
+use Rattle.quorum.proofs.Laws.{members-single}
+use Rattle.quorum.proofs.Majorities.{size-single}
 use Rattle.message.specs.declared.Message.{Message}
 use Rattle.message.specs.Message.{numbersOf, messageTo}
 use Rattle.message.specs.Faults.{faultOf}
 use Rattle.message.proofs.Laws.{message-numbers, fault-passed}
-use Rattle.state.specs.declared.Settings.{Settings}
 use Rattle.state.specs.Limits.{settingsOk}
-use Rattle.host.specs.declared.Host.{Host}
 use Rattle.host.specs.declared.Sent.{Sent}
 use Rattle.host.specs.declared.Stepped.{Stepped}
-use Rattle.host.specs.Steps.{hostOk, quiet, restartRefusal, restarted, restartOf, startRefusal, started, startOf, acted, messageRefusal, messageStep}
+use Rattle.host.specs.Steps.{startRefusal}
 use Rattle.host.proofs.Limits.{SettingsIn, settings-in}
 use Rattle.places.specs.Places.{placesOk, clocksOk}
 use Rattle.slots.specs.declared.Slot.{Slot}
@@ -57,20 +56,6 @@ message-of c i m e f =
 
 pub target-in : (n : ℕ) (m : Message) → faultOf n (numbersOf m) ≡ done → targetOf m < n
 target-in n m f = ltb-true (targetOf m) n (fault-passed n (numbersOf m) f .target)
-
--- ---- a host's own methods, where nothing is refused
-
-pub start-done : (s : Settings) (h : Host) (d : ℕ) → startRefusal s h d ≡ done → startOf s h d ≡ started s h d
-unfolding startOf
-start-done s h d e = rw (eq-eqb (startRefusal s h d) done e)
-
-pub restart-done : (s : Settings) (h : Host) → restartRefusal s h ≡ done → restartOf s h ≡ quiet (restarted s h)
-unfolding restartOf
-restart-done s h e = rw (eq-eqb (restartRefusal s h) done e)
-
-pub message-done : (s : Settings) (h : Host) (m : Message) → hostOk s h ≡ true → faultOf (s .n) (numbersOf m) ≡ done → targetOf m ≡ h .number → messageStep s h m ≡ acted s h m
-unfolding messageStep messageRefusal firstOf
-message-done s h m e f g = rw (e, f, eq-eqb (targetOf m) (h .number) g)
 
 -- ---- what a step sends
 
@@ -141,7 +126,7 @@ place-own : (n : ℕ) (ss : List Slot) (m : Message) → faultOf n (numbersOf m)
 unfolding placeOf placedEach
 place-own n ss m f =
     let b = target-in n m f in
-    rw (size-single n (targetOf m) b, members-single n (targetOf m) b, own-target m)
+    rw (size-single (targetOf m), members-single n (targetOf m) b, own-target m)
 
 pub own-full : (n : ℕ) (ss : List Slot) (m : Message) → faultOf n (numbersOf m) ≡ done → placeOf n ss m (single (targetOf m)) .answer ≡ fullRefusal 1 ss
 own-full n ss m f = ap (λ (x : Placed). x .answer) (place-own n ss m f) ∙ by-answer (leb 1 (empties ss)) (placed ss m) ss

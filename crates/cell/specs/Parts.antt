@@ -1,4 +1,5 @@
--- Parts of the events that the code has as functions of their own, from the definitions of the events. Assumes nothing.
+-- Parts of the events, said in the way in which the code's own functions are cut. No claim about cells rests on them: proofs/Methods ties them
+-- to the definitions of the events. Assumes nothing.
 use Prim.Native.Nat.{ℕ}
 use lib.ListN.{set}
 use Rattle.base.specs.Refusals.{done}

@@ -7,8 +7,8 @@ use Prim.Native.Nat.{ℕ, _+_, _-_, _^_, _≤_, _<_}
 use native.Mathlib.Omega.{arith}
 use lib.Dec.{leb, eqb}
 use lib.Pow.{pow-pos}
-use borrow.Author.Tests.{ltb-true, leb-true, eqb-true, lt-ltb, le-leb, ne-eqb}
-use Rattle.base.specs.Refusals.{done, refusedCell, refusedWaiting, refusedDuration, refusedClock}
+use borrow.Author.Tests.{ltb-true, leb-true, eqb-true, lt-ltb, le-leb, eq-eqb, ne-eqb}
+use Rattle.base.specs.Refusals.{done, firstOf, refusedCell, refusedWaiting, refusedDuration, refusedClock}
 use Rattle.base.proofs.Tests.{by-test, first-passed, unless-passed}
 use Rattle.quorum.specs.Sets.{isIn, isBelow, single, withHost, everyone, others}
 use Rattle.quorum.proofs.Majorities.{with-below}
@@ -63,6 +63,36 @@ refused-start s h d e = refused-same (startRefusal s h d) h (started s h d) e
 pub refused-message : (s : Settings) (h : Host) (m : Message) → (messageRefusal s h m ≡ done → ⊥) → messageStep s h m ≡ refused (messageRefusal s h m) h
 unfolding messageStep
 refused-message s h m e = refused-same (messageRefusal s h m) h (acted s h m) e
+
+-- ---- a step in which nothing is refused is what the rules do
+
+done-same : (k : ℕ) (h : Host) (step : Stepped) → k ≡ done → stepWith k h step ≡ step
+done-same k h step e = rw (eq-eqb k done e)
+
+pub advance-done : (s : Settings) (h : Host) (d : ℕ) → advanceRefusal s h d ≡ done → advanceOf s h d ≡ quiet (advanced h d)
+unfolding advanceOf
+advance-done s h d e = done-same (advanceRefusal s h d) h (quiet (advanced h d)) e
+
+pub restart-done : (s : Settings) (h : Host) → restartRefusal s h ≡ done → restartOf s h ≡ quiet (restarted s h)
+unfolding restartOf
+restart-done s h e = done-same (restartRefusal s h) h (quiet (restarted s h)) e
+
+pub start-done : (s : Settings) (h : Host) (d : ℕ) → startRefusal s h d ≡ done → startOf s h d ≡ started s h d
+unfolding startOf
+start-done s h d e = done-same (startRefusal s h d) h (started s h d) e
+
+pub message-done : (s : Settings) (h : Host) (m : Message) → messageRefusal s h m ≡ done → messageStep s h m ≡ acted s h m
+unfolding messageStep
+message-done s h m e = done-same (messageRefusal s h m) h (acted s h m) e
+
+-- a host within its limits refuses no restart, and no message in which writing refuses nothing and that is for it
+pub restart-passed : (s : Settings) (h : Host) → hostOk s h ≡ true → restartRefusal s h ≡ done
+unfolding restartRefusal firstOf
+restart-passed s h e = rw e
+
+pub message-passed : (s : Settings) (h : Host) (m : Message) → hostOk s h ≡ true → faultOf (s .n) (numbersOf m) ≡ done → numbersOf m .target ≡ h .number → messageRefusal s h m ≡ done
+unfolding messageRefusal firstOf
+message-passed s h m e f g = rw (e, f, eq-eqb (numbersOf m .target) (h .number) g)
 
 -- ---- a reply of a host that was counted changes nothing
 

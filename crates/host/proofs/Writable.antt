@@ -7,7 +7,7 @@ use lib.Dec.{ltb, leb, eqb}
 use lib.Pow.{pow-lt}
 use borrow.Author.Tests.{ltb-true, leb-true, eqb-true, lt-ltb, le-leb, eq-eqb}
 use Rattle.base.specs.Refusals.{allHold, answer}
-use Rattle.base.proofs.Tests.{both}
+use Rattle.base.proofs.Tests.{both, and-true}
 use Rattle.quorum.specs.Sets.{Member, isBelow, isOnly, single, everyone, others}
 use Rattle.quorum.proofs.Majorities.{everyone-below, others-below}
 use Rattle.message.specs.declared.Ballot.{Ballot}
@@ -38,10 +38,6 @@ use Rattle.host.specs.Steps.{lastWait, hostOk, headFrom, responseWith}
 use Rattle.host.proofs.Limits.{HostIn, StateIn, AskingIn}
 
 -- ---- limits, from their parts
-
-pub and-true : (a b : Bool) → a ≡ true → b ≡ true → (a && b) ≡ true
-and-true true b p q = q
-and-true false b p q = p
 
 or-right : (a b : Bool) → b ≡ true → (a || b) ≡ true
 or-right true b q = refl

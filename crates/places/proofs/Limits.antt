@@ -20,7 +20,7 @@ use Rattle.state.specs.declared.State.{State}
 use Rattle.host.specs.declared.Host.{Host}
 use Rattle.host.specs.Steps.{hostOk}
 use Rattle.state.specs.Blank.{blankState}
-use Rattle.host.proofs.Writable.{and-true}
+use Rattle.base.proofs.Tests.{and-true}
 use Rattle.places.specs.Places.{blankHost, noPromise, noLease, noTick, noRound, noHolder, isBlankState, isBlank, placeOk, placesOk, isNear, allNear, clocksOk}
 
 -- ---- the blank host

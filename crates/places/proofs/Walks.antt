@@ -8,8 +8,9 @@ use native.Mathlib.Omega.{arith}
 use native.Mathlib.Decide.{decLt}
 use lib.Dec.{leb, eqb}
 use lib.ListN.{length, getD, take, drop, drop-of-length-le}
-use lib.Seq.{drop-cons, getD-take, length-take-le}
+use lib.Seq.{getD-take, length-take-le}
 use borrow.Author.Tests.{leb-true, le-leb, eq-eqb}
+use Rattle.base.proofs.Lists.{from-place}
 use Rattle.base.specs.Refusals.{done, firstOf}
 use Rattle.state.specs.declared.Settings.{Settings}
 use Rattle.host.specs.declared.Host.{Host}
@@ -17,20 +18,16 @@ use Rattle.host.specs.Steps.{advanceRefusal}
 use Rattle.places.specs.Places.{blankHost, placeOk, placesOk, clocksOk}
 use Rattle.places.proofs.Limits.{clocks-in, out-clocks}
 
--- the hosts from i on are host i and the rest
-split : (hs : List Host) (i : ℕ) → i < length hs → drop i hs ≡ getD hs i blankHost ∷ drop (i + 1) hs
-split hs i h = drop-cons hs i blankHost h ∙ ap (λ (k : ℕ). getD hs i blankHost ∷ drop k hs) (sym (add-one i))
-
 -- ---- limits
 
 module _ (s : Settings) (hs : List Host) (i : ℕ) (h : i < length hs) where
   pub places-step : placeOk s i (getD hs i blankHost) ≡ true → placesOk s i (drop i hs) ≡ placesOk s (i + 1) (drop (i + 1) hs)
   unfolding placesOk
-  places-step e = ap (placesOk s i) (split hs i h) ∙ rw (e, add-one i)
+  places-step e = ap (placesOk s i) (from-place hs i blankHost h) ∙ rw (e, add-one i)
 
   pub places-fault : placeOk s i (getD hs i blankHost) ≡ false → placesOk s i (drop i hs) ≡ false
   unfolding placesOk
-  places-fault e = ap (placesOk s i) (split hs i h) ∙ rw e
+  places-fault e = ap (placesOk s i) (from-place hs i blankHost h) ∙ rw e
 
 pub places-end : (s : Settings) (hs : List Host) (i : ℕ) → length hs ≤ i → placesOk s i (drop i hs) ≡ true
 unfolding placesOk
@@ -110,7 +107,7 @@ span-clocks s hs low high some few p = go (leb (high - low) (s .spread)) refl (c
 -- the hosts below n from i on are host i and the rest
 split-below : (hs : List Host) (n i : ℕ) → n ≤ length hs → i < n → drop i (take n hs) ≡ getD hs i blankHost ∷ drop (i + 1) (take n hs)
 split-below hs n i few b =
-    split (take n hs) i (rw (length-take-le n hs few) b) ∙ ap (λ (h : Host). h ∷ drop (i + 1) (take n hs)) (getD-take n hs i blankHost b)
+    from-place (take n hs) i blankHost (rw (length-take-le n hs few) b) ∙ ap (λ (h : Host). h ∷ drop (i + 1) (take n hs)) (getD-take n hs i blankHost b)
 
 module _ (s : Settings) (d : ℕ) (hs : List Host) (n i : ℕ) (few : n ≤ length hs) (b : i < n) where
   abbrev refusals : ℕ → ℕ

@@ -75,9 +75,13 @@ clocksOk s hs = allNear (s .spread) (take (s .n) hs) (take (s .n) hs)
 
 -- ---- opening
 
+-- a host of this number and clock with nothing in its state, before its restart
+abbrev pub unwaited : ℕ → ℕ → Host
+unwaited clock i = record { number = i; clock = clock; wait = 0; state = blankState }
+
 -- 'sets every clock to one given tick, and every host waits as after a restart'
 unfoldable pub newHost : Settings → ℕ → ℕ → Host
-newHost s clock i = cond (ltb i (s .n)) (restarted s (record { number = i; clock = clock; wait = 0; state = blankState })) blankHost
+newHost s clock i = cond (ltb i (s .n)) (restarted s (unwaited clock i)) blankHost
 
 abbrev pub newHosts : Settings → ℕ → List Host
 newHosts s clock = map (newHost s clock) (0 ∷ 1 ∷ 2 ∷ 3 ∷ 4 ∷ 5 ∷ 6 ∷ 7 ∷ 8 ∷ [])

@@ -3,10 +3,9 @@
 ghost use mathlib.Core.Path.{_≡_};
 ghost use mathlib.Core.Bool.{true};
 ghost use Prim.Native.Nat.{_<_, _≤_, max, min};
-ghost use lib.ListN.{take};
 ghost use Rattle.message.specs.Message.{lastTick};
 ghost use Rattle.state.specs.Limits.{settingsOk};
-ghost use Rattle.places.specs.Places.{noPromise, noLease, noTick, noRound, noHolder, isBlankState, isBlank, blankHost, placeOk, placesOk, clocksOk, newHost, newHosts, advancesOf};
+ghost use Rattle.places.specs.Places.{noPromise, noLease, noTick, noRound, noHolder, isBlankState, isBlank, placeOk, placesOk, clocksOk, newHost, newHosts, advancesOf};
 use base::DONE;
 use host::Host;
 use rules::Accepted;
@@ -17,8 +16,8 @@ use state::Round;
 use state::Settings;
 use state::State;
 
-// How many places for hosts a cell has.
-pub const PLACES: usize = 9;
+// How many places for hosts a cell has: as many as a cell may have hosts.
+const PLACES: usize = 9;
 
 // What an advance of all hosts gives: the answer's number and the hosts.
 pub struct Advanced {

@@ -163,6 +163,3 @@ members-lone t h (suc k) a b = go (ℕ-discrete t h) (λ d. members-lone t (suc 
 
 pub members-single : (n t : ℕ) → t < n → members n (single t) ≡ t ∷ []
 members-single n t b = members-lone t 0 n (omega arith) (omega arith)
-
-pub size-single : (n t : ℕ) → t < n → ones (single t) ≡ 1
-size-single n t b = sym (members-length n (single t) (pow-lt b)) ∙ ap length (members-single n t b)

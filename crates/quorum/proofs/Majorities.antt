@@ -120,7 +120,7 @@ with-other s h i e = or-bit s (single h) i ∙ omega (arith, single-other h i e)
 pub with-below : (n s h : ℕ) → s < 2 ^ n → h < n → withHost s h < 2 ^ n
 with-below n s h p q = or-lt n s (single h) p (pow-lt q)
 
-size-single : (h : ℕ) → size (single h) ≡ 1
+pub size-single : (h : ℕ) → size (single h) ≡ 1
 unfolding ones
 size-single h = ap ones (sym (add-zero (1 * 2 ^ h) ∙ one-mul (2 ^ h))) ∙ ones-cat h 1 0 (pow-pos h)
 

@@ -3,11 +3,12 @@
 use mathlib.Core.Path.{_≡_, refl, _∙_}
 use mathlib.Core.Bool.{true}
 use mathlib.Core.List.{List, [], _∷_}
-use Prim.Native.Nat.{ℕ, zero, suc}
-use lib.ListN.{length, getD, set, replicate, length-set}
+use Prim.Native.Nat.{ℕ}
+use lib.ListN.{length, getD, length-set}
 use borrow.Author.Tests.{eqb-true, eq-eqb}
 use Rattle.base.specs.Refusals.{done}
 use Rattle.base.specs.Lists.{All}
+use Rattle.base.proofs.Lists.{all-map, all-set, all-at, all-same}
 use Rattle.base.proofs.Tests.{both}
 use Rattle.message.specs.declared.Message.{Message}
 use Rattle.message.specs.Message.{numbersOf, messageTo}
@@ -29,30 +30,6 @@ length-placed-each ss m (h ∷ hs) = length-placed-each (placed ss (messageTo m 
 
 pub length-freed : (ss : List Slot) (i : ℕ) → length (freed ss i) ≡ length ss
 length-freed ss i = length-set ss i emptySlot
-
--- ---- what holds of each element of a list
-
-pub all-map : {A : Type 0} {P Q : A → Type 0} (xs : List A) → ((x : A) → P x → Q x) → All P xs → All Q xs
-unfolding All
-all-map [] f p = tt
-all-map (x ∷ xs) f p = (f x (p .0), all-map xs f (p .1))
-
-all-set : {A : Type 0} (P : A → Type 0) (xs : List A) (i : ℕ) (a : A) → All P xs → P a → All P (set xs i a)
-unfolding All
-all-set P [] i a p q = tt
-all-set P (x ∷ xs) zero a p q = (q, p .1)
-all-set P (x ∷ xs) (suc i) a p q = (p .0, all-set P xs i a (p .1) q)
-
-all-at : {A : Type 0} (P : A → Type 0) (xs : List A) (i : ℕ) (d : A) → All P xs → P d → P (getD xs i d)
-unfolding All
-all-at P [] i d p q = q
-all-at P (x ∷ xs) zero d p q = p .0
-all-at P (x ∷ xs) (suc i) d p q = all-at P xs i d (p .1) q
-
-all-same : {A : Type 0} (P : A → Type 0) (n : ℕ) (a : A) → P a → All P (replicate n a)
-unfolding All
-all-same P zero a q = tt
-all-same P (suc n) a q = (q, all-same P n a q)
 
 -- ---- what holds of each message under way
 

@@ -1,12 +1,10 @@
 -- The walks over slots and receivers, one step at a time. Assumes nothing.
-use mathlib.Core.Path.{_≡_, refl, sym, ap, _∙_}
+use mathlib.Core.Path.{_≡_, ap, _∙_}
 use mathlib.Core.Bool.{Bool, true, false, cond}
-use mathlib.Core.List.{List, _∷_, map}
+use mathlib.Core.List.{List, _∷_}
 use Prim.Native.Nat.{ℕ, suc, _+_, _-_, _≤_, _<_}
-use native.Mathlib.Numerals.{add-one}
-use native.Mathlib.Omega.{arith}
-use lib.ListN.{length, getD, drop, drop-of-length-le, length-map}
-use lib.Seq.{drop-cons}
+use lib.ListN.{length, getD, drop, drop-of-length-le}
+use Rattle.base.proofs.Lists.{from-place}
 use Rattle.quorum.specs.Sets.{isIn, membersFrom}
 use Rattle.quorum.proofs.Laws.{members-step}
 use Rattle.message.specs.declared.Message.{Message}
@@ -14,14 +12,9 @@ use Rattle.message.specs.Message.{messageTo}
 use Rattle.slots.specs.declared.Slot.{Slot}
 use Rattle.slots.specs.Slots.{emptySlot, isEmpty, contentOk, slotsOk, empties, lowest, placed, placedEach}
 
--- what owning a field that is an array of structs tells of its list
-pub length-mapped : {A B : Type 0} (f : A → B) (l : List A) (n : ℕ) → length (map f l) ≡ n → length l ≡ n
-length-mapped f l n e = sym (length-map l f) ∙ e
-
 module _ (ss : List Slot) (i : ℕ) (h : i < length ss) where
-  -- the slots from i on are slot i and the rest
   split : drop i ss ≡ getD ss i emptySlot ∷ drop (i + 1) ss
-  split = drop-cons ss i emptySlot h ∙ ap (λ (k : ℕ). getD ss i emptySlot ∷ drop k ss) (sym (add-one i))
+  split = from-place ss i emptySlot h
 
   pub ok-step : (n : ℕ) → contentOk n (getD ss i emptySlot .content) ≡ true → slotsOk n (drop i ss) ≡ slotsOk n (drop (i + 1) ss)
   unfolding slotsOk

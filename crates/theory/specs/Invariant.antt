@@ -1,4 +1,5 @@
--- The facts that the proof of agreement speaks of, and the invariant.
+-- The facts that the proof of agreement speaks of, and the invariant. The theorem does not rest on them for what it says: they are what its
+-- proof carries from step to step.
 --
 -- A disjunction is written as an implication where that is enough: `Joined s x b` says that x has promised b or higher, or waits until
 -- tick b + T, as "if the promise is below b, then ..". That a proposal is lost (dead or blocked) is never a disjunct: each claim says
@@ -51,7 +52,7 @@ module _ {𝒞 : Setup} where
 
   -- ---- what is true of each message ever sent
 
-  -- the ballot's tick is at most every clock and the spread (B)
+  -- the ballot's tick is at most every clock and the spread
   abbrev pub Old : World 𝒞 → ℕ → Type 0
   Old s b = (y : ℕ) → tick b ≤ s .clock y + S
 
@@ -64,12 +65,12 @@ module _ {𝒞 : Setup} where
     pub joined : Joined s x b
     pub full : (c o e : ℕ) → Proposed s c o e → c < b → Live s c o e → Voted s x c → c < top A
 
-  -- a prepare response (G)
+  -- a prepare response
   pub record Reply (s : World 𝒞) (x b : ℕ) (A : Option Lease) : Type 0 where
     pub heard : Heard s x b A
     pub below : Below s b A
 
-  -- a propose request (C; spent: D)
+  -- a propose request
   pub record Proposal (s : World 𝒞) (b e : ℕ) : Type 0 where
     pub old : Old s b
     pub short : e ≤ tick b + T
@@ -78,13 +79,13 @@ module _ {𝒞 : Setup} where
     pub joined : (x : ℕ) → In x set → Joined s x b
     pub spent : s .host (proposer b) .last ≤ tick b → tick b + T ≤ s .host (proposer b) .wait
 
-  -- a propose response (F)
+  -- a propose response
   pub record Vote (s : World 𝒞) (b : ℕ) : Type 0 where
     pub owner : ℕ
     pub end : ℕ
     pub proposed : Proposed s b owner end
 
-  -- a learn, and what a host names (J)
+  -- a learn, and what a host names
   pub record Holding (s : World 𝒞) (b o f : ℕ) : Type 0 where
     pub proposed : Proposed s b o (f + S)
     pub chosen : Chosen s b
@@ -98,7 +99,7 @@ module _ {𝒞 : Setup} where
 
   -- ---- what is true of each host
 
-  -- p asks for the ballot b, and its last ballot's tick is one below `last` (H; ours, unsaid, spent: D)
+  -- p asks for the ballot b, and its last ballot's tick is one below `last`
   pub record Asking (s : World 𝒞) (p last b d : ℕ) (R : Hosts) (K : Option Lease) : Type 0 where
     pub ours : proposer b ≡ p
     pub unsaid : (o e : ℕ) → Proposed s b o e → ⊥
@@ -108,7 +109,7 @@ module _ {𝒞 : Setup} where
     pub below : Below s b K
     pub heard : (x : ℕ) → In x R → Heard s x b K
 
-  -- a host proposes (I; whose ballot it is, the proof does not need)
+  -- a host proposes; whose ballot it is, the proof does not need
   pub record Proposing (s : World 𝒞) (b o e : ℕ) (R : Hosts) : Type 0 where
     pub proposed : Proposed s b o e
     pub votes : (x : ℕ) → In x R → Voted s x b
@@ -130,11 +131,11 @@ module _ {𝒞 : Setup} where
   -- ---- the invariant
 
   pub record Invariant (s : World 𝒞) : Type 0 where
-    -- any two clocks differ by the spread at most (A)
+    -- any two clocks differ by the spread at most
     pub near : (x y : ℕ) → s .clock x ≤ s .clock y + S
     pub messages : (m : Message) → Sent s m → MessageOk s m
     pub hosts : (x : ℕ) → HostOk s x (s .host x)
-    -- proposals with equal ballots are equal (D)
+    -- proposals with equal ballots are equal
     pub one : (b o e o' e' : ℕ) → Proposed s b o e → Proposed s b o' e' → (o ≡ o') × (e ≡ e')
-    -- a proposal above a live one is for the same owner, and ends no earlier (E)
+    -- a proposal above a live one is for the same owner, and ends no earlier
     pub main : (b o e b' o' e' : ℕ) → Proposed s b o e → Proposed s b' o' e' → b < b' → Live s b o e → (o ≡ o') × (e ≤ e')

@@ -4,11 +4,10 @@ use lib.Dec.{eqb}
 use Rattle.base.specs.Refusals.{done, firstOf}
 use Rattle.host.specs.declared.Stepped.{Stepped}
 use Rattle.host.specs.Steps.{advanceRefusal, advanced}
-use Rattle.host.proofs.Kept.{answer-advance}
+use Rattle.host.proofs.Kept.{advance-done, answer-advance}
 use Rattle.places.specs.Places.{blankHost, eachHost, advancesRefusal, advancesOf}
 use Rattle.places.proofs.Each.{each-next}
 use Rattle.places.proofs.Walks.{refusals-step, refusals-found, refusals-end}
-use Rattle.places.proofs.Steps.{advance-done}
 use lib.ListN.{getD}
 use borrow.Author.Needs.{needs}
 use borrow.Author.Tests.{eq-eqb, ne-eqb}

@@ -2,7 +2,7 @@ use mathlib.Core.Path.{ap, _∙_}
 use borrow.Author.Tests.{lt-ltb, le-ltb}
 use Rattle.host.specs.declared.Stepped.{Stepped}
 use Rattle.places.specs.Places.{newHost}
-use Rattle.places.proofs.Steps.{fresh-restarts}
+use Rattle.places.proofs.Steps.{unwaited-restarts}
 use borrow.Author.Needs.{needs}
 use Rattle.places.proofs.new_host.Statement.{statement}
 use Rattle.places.proofs.new_host.Tie as tie
@@ -15,7 +15,7 @@ unfolding newHost
 returns c =
     let a = c .before .before .before .before .args in
     let b = c .before .before .if1 .taken in
-    rw (lt-ltb (a .i) (a .s .n) b) (ap (λ (x : Stepped). x .host) (c .before .restart .ensures ∙ fresh-restarts (a .s) (a .clock) (a .i) (c .before .before .before .before .pre .0) (c .before .before .before .before .pre .1) b))
+    rw (lt-ltb (a .i) (a .s .n) b) (ap (λ (x : Stepped). x .host) (c .before .restart .ensures ∙ unwaited-restarts (a .s) (a .clock) (a .i) (c .before .before .before .before .pre .0) (c .before .before .before .before .pre .1) b))
 
 returns-2 : tie.Need-returns-2
 unfolding newHost

@@ -4,8 +4,7 @@ use borrow.Author.Tests.{not-true, not-false, ne-eqb, lt-ltb, le-ltb}
 use Rattle.base.specs.Refusals.{done, firstOf}
 use Rattle.host.specs.declared.Stepped.{Stepped}
 use Rattle.host.specs.Steps.{advanceRefusal, advanced}
-use Rattle.host.proofs.Kept.{answer-advance}
-use Rattle.places.proofs.Steps.{advance-done}
+use Rattle.host.proofs.Kept.{advance-done, answer-advance}
 use Rattle.cell.specs.Limits.{hostAt}
 use Rattle.cell.specs.Events.{advancedOne, advanceOneRefusal, advanceOneOf}
 use Rattle.cell.proofs.Methods.{n-of}

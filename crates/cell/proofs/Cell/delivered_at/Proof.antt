@@ -1,13 +1,14 @@
 use mathlib.Core.Path.{_≡_, sym, ap, _∙_}
 use native.Mathlib.Omega.{arith}
 use Rattle.message.specs.declared.Numbers.{Numbers}
+use Rattle.host.proofs.Kept.{message-done, message-passed}
 use Rattle.slots.specs.Slots.{freed}
-use Rattle.slots.proofs.Walks.{length-mapped}
+use Rattle.base.proofs.Lists.{length-mapped}
 use Rattle.cell.specs.Limits.{hostAt}
 use Rattle.cell.specs.Events.{withSlots, targetOf, deliverStep}
 use Rattle.cell.specs.Parts.{carriedOf, orSame, deliveredOf}
 use Rattle.cell.proofs.Limits.{Sized, cell-in}
-use Rattle.cell.proofs.Methods.{n-of, target-in, message-done, or-refused, or-done}
+use Rattle.cell.proofs.Methods.{n-of, target-in, or-refused, or-done}
 use borrow.Author.Needs.{needs}
 use Rattle.cell.proofs.Cell.delivered_at.Statement.{statement}
 use Rattle.cell.proofs.Cell.delivered_at.Tie as tie
@@ -24,7 +25,7 @@ step-carried c =
     let i = cell-in (a .t1) (sized (c .before .before .before .before .before .before)) (p .0) in
     let b = target-in (a .t1 .settings .n) (a .m) (p .1 .1) in
     let t = targetOf (a .m) in
-    rw (c .carried .ensures, c .before .receive .ensures, c .before .before .before .before .before .numbers-of .ensures, message-done (a .t1 .settings) (hostAt (a .t1) t) (a .m) (i .host t b) (p .1 .1) (sym (i .number t b)))
+    rw (c .carried .ensures, c .before .receive .ensures, c .before .before .before .before .before .numbers-of .ensures, message-done (a .t1 .settings) (hostAt (a .t1) t) (a .m) (message-passed (a .t1 .settings) (hostAt (a .t1) t) (a .m) (i .host t b) (p .1 .1) (sym (i .number t b))))
 
 numbers-of-requires : tie.Need-numbers-of-requires
 numbers-of-requires c κs = search needs

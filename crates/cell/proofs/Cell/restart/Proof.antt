@@ -4,10 +4,10 @@ use borrow.Author.Tests.{not-true, not-false, ne-eqb, lt-ltb, le-ltb}
 use Rattle.base.specs.Refusals.{done, firstOf}
 use Rattle.host.specs.declared.Stepped.{Stepped}
 use Rattle.host.specs.Steps.{restartRefusal, restarted}
-use Rattle.host.proofs.Kept.{answer-restart}
+use Rattle.host.proofs.Kept.{answer-restart, restart-done}
 use Rattle.cell.specs.Limits.{hostAt}
 use Rattle.cell.specs.Events.{restartAtRefusal, restartAtOf}
-use Rattle.cell.proofs.Methods.{n-of, restart-done}
+use Rattle.cell.proofs.Methods.{n-of}
 use borrow.Author.Needs.{needs}
 use Rattle.cell.proofs.Cell.restart.Statement.{statement}
 use Rattle.cell.proofs.Cell.restart.Tie as tie

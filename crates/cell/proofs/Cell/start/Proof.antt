@@ -5,11 +5,11 @@ use borrow.Author.Tests.{not-true, not-false, ne-eqb, lt-ltb, le-ltb}
 use Rattle.base.specs.Refusals.{done, firstOf}
 use Rattle.host.specs.declared.Stepped.{Stepped}
 use Rattle.host.specs.Steps.{startRefusal}
-use Rattle.host.proofs.Kept.{answer-start}
+use Rattle.host.proofs.Kept.{answer-start, start-done}
 use Rattle.cell.specs.Limits.{hostAt, cellOk}
 use Rattle.cell.specs.Events.{startAtRefusal, startAtOf}
 use Rattle.cell.specs.Parts.{carriedOf, orSame}
-use Rattle.cell.proofs.Methods.{n-of, start-done, start-carried, or-refused, or-done}
+use Rattle.cell.proofs.Methods.{n-of, start-carried, or-refused, or-done}
 use borrow.Author.Needs.{needs}
 use Rattle.cell.proofs.Cell.start.Statement.{statement}
 use Rattle.cell.proofs.Cell.start.Tie as tie
