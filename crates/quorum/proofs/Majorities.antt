@@ -12,7 +12,7 @@ use lib.Bits.{bitOr, or-shr, or-step, or-lt}
 use lib.Count.{ones, ones-cat, ones-ones}
 use lib.Pow.{pow-pos, pow-lt, pow-add, mod-pow-add, ones-split, ones-lt, high}
 use borrow.Author.Tests.{leb-true}
-use Rattle.quorum.specs.Sets.{bit, single, withHost, everyone, others, size, majority}
+use Rattle.quorum.specs.Sets.{bit, single, withHost, everyone, others, size, majoritySize, majority}
 use Rattle.quorum.proofs.Laws.{bit-le, single-same, single-other}
 
 -- ---- sums by index
@@ -85,6 +85,10 @@ sum-weighed : (f : ℕ → ℕ) (n : ℕ) → sum (λ i. f i * 1) n ≡ sum f n
 sum-weighed f zero = refl
 sum-weighed f (suc n) = omega (arith, sum-weighed f n)
 
+-- two majorities are more than all hosts
+majority-half : (n : ℕ) → n < majoritySize n + majoritySize n
+majority-half n = omega arith
+
 -- two majorities of n hosts share a host: the weights are 1
 pub majorities-meet : (n s t : ℕ) → s < 2 ^ n → t < 2 ^ n → majority n s ≡ true → majority n t ≡ true → (i : ℕ) × (i < n) × (bit s i ≡ 1) × (bit t i ≡ 1)
 unfolding majority
@@ -92,8 +96,9 @@ majorities-meet n s t hs ht ms mt =
     weighed-meet (λ i. 1) n s t
     (omega (
       arith,
-      leb-true (n / 2 + 1) (size s) ms,
-      leb-true (n / 2 + 1) (size t) mt,
+      majority-half n,
+      leb-true (majoritySize n) (size s) ms,
+      leb-true (majoritySize n) (size t) mt,
       size-sum s n hs,
       size-sum t n ht,
       sum-one n,

@@ -49,9 +49,13 @@ isOnly set h = eqb set 0 || eqb set (single h)
 abbrev pub size : ℕ → ℕ
 size set = ones set
 
--- 'a majority is floor(n / 2) + 1 hosts': in the field's word a quorum
+-- 'a majority is floor(n / 2) + 1 hosts'
+abbrev pub majoritySize : ℕ → ℕ
+majoritySize n = n / 2 + 1
+
+-- in the field's word a quorum
 unfoldable pub majority : ℕ → ℕ → Bool
-majority n set = leb (n / 2 + 1) (size set)
+majority n set = leb (majoritySize n) (size set)
 
 -- those of the k hosts from h on that are in the set, rising
 unfoldable pub membersFrom : ℕ → ℕ → ℕ → List ℕ

@@ -1,5 +1,5 @@
 -- Laws of the leaf rules: what the proof of agreement stands on, and what turns away a build whose rule is another. Assumes nothing.
-use mathlib.Core.Path.{_≡_, refl, sym}
+use mathlib.Core.Path.{_≡_, refl, sym, subst}
 use mathlib.Core.Bool.{Bool, true, false, cond, not}
 use mathlib.Core.Logic.{_⊎_, inl, inr}
 use Prim.Native.Nat.{ℕ, _+_, _≤_, _<_}
@@ -19,7 +19,7 @@ use Rattle.rules.specs.declared.LastTick.{LastTick}
 use Rattle.rules.specs.declared.Holder.{Holder}
 use Rattle.rules.specs.declared.Named.{Named}
 use Rattle.rules.specs.declared.Claim.{Claim}
-use Rattle.rules.specs.Rules.{isWaiting, waitEnd, acceptedAt, namedAt, ballotAt, isFresh, mayPromise, counts, hasEnded, higherOf, acts, ownEnd, claim, claimOf, isForbidden, mayAccept, afterAccept, isNamable, namedBy}
+use Rattle.rules.specs.Rules.{isWaiting, waitEnd, acceptedAt, namedAt, ballotAt, isFresh, mayPromise, counts, hasEnded, replacesKept, higherOf, acts, ownEnd, claim, claimOf, isForbidden, mayAccept, afterAccept, namingBound, isNamable, namedBy}
 
 -- ---- the order of ballots
 
@@ -132,12 +132,11 @@ earlier-kept a b e = rw (e, above-itself (b .ballot))
 pub higher-not-below : (a b l : Lease) → higherOf (Accepted.One a) (Accepted.One b) ≡ Accepted.One l
     → (isAbove (a .ballot) (l .ballot) ≡ false) × (isAbove (b .ballot) (l .ballot) ≡ false)
 unfolding higherOf
-higher-not-below a b l e = go (isAbove (b .ballot) (a .ballot)) refl e
+higher-not-below a b l e = subst Highest e (by-test Highest (replacesKept a b) _ _ (λ p. (above-one-way _ _ p, above-itself (b .ballot))) (λ p. (above-itself (a .ballot), p)))
   where
-    go : (t : Bool) → isAbove (b .ballot) (a .ballot) ≡ t → cond t (Accepted.One b) (Accepted.One a) ≡ Accepted.One l
-        → (isAbove (a .ballot) (l .ballot) ≡ false) × (isAbove (b .ballot) (l .ballot) ≡ false)
-    go true p q = rw (← one-lease q) (above-one-way (b .ballot) (a .ballot) p, above-itself (b .ballot))
-    go false p q = rw (← one-lease q) (above-itself (a .ballot), p)
+    Highest : Accepted → Type 0
+    Highest Accepted.Nothing = Unit {0}
+    Highest (Accepted.One k) = (isAbove (a .ballot) (k .ballot) ≡ false) × (isAbove (b .ballot) (k .ballot) ≡ false)
 
 -- a round acts on the one reply that makes its set a majority
 pub acts-majority : (n before after : ℕ) → acts n before after ≡ true → (majority n after ≡ true) × (majority n before ≡ false)
@@ -162,8 +161,10 @@ pub claim-live-kept : (number clock : ℕ) (own : KeepersEnd) (l : Lease) → cl
 unfolding claimOf
 claim-live-kept number clock own l h =
     rw (lt-leb (l .end .0) clock h)
-    (by-test Kept (eqb (l .owner) number) _ (claim (l .owner) (l .end))
-    (λ p. by-test Kept (leb (l .end .0) (own .0)) (claim number own) (claim (l .owner) (l .end)) (λ q. (sym (eqb-true (l .owner) number p), leb-true (l .end .0) (own .0) q)) (λ q. (refl, omega arith)))
+    (by-test Kept (eqb (l .owner) number) _ _
+    (λ p.
+      let o = eqb-true (l .owner) number p in
+      by-test Kept (leb (l .end .0) (own .0)) _ _ (λ q. (cc, leb-true (l .end .0) (own .0) q)) (λ q. (cc, omega arith)))
     (λ p. (refl, omega arith)))
   where
     Kept : Claim → Type 0
@@ -196,14 +197,23 @@ accept-live p clock l e = go (leb (l .end .0) clock) refl e
     go true p q = true-false (sym q)
     go false p q = leb-false (l .end .0) clock p
 
+-- whatever is forbidden is not accepted
+accept-allowed : (p : Promised) (clock : ℕ) (l : Lease) → mayAccept p clock l ≡ true → isForbidden p (l .ballot) ≡ false
+unfolding mayAccept
+accept-allowed p clock l e = go (leb (l .end .0) clock) e
+  where
+    go : (t : Bool) → cond t false (not (isForbidden p (l .ballot))) ≡ true → isForbidden p (l .ballot) ≡ false
+    go true q = true-false (sym q)
+    go false q = not-true (isForbidden p (l .ballot)) q
+
+-- what is not forbidden is not below the promise
+allowed-not-below : (p b : Ballot) → isForbidden (Promised.To p) b ≡ false → isAbove p b ≡ false
+unfolding isForbidden
+allowed-not-below p b e = e
+
 -- an accepted proposal's ballot is not below the promise
 pub accept-not-below : (p : Ballot) (clock : ℕ) (l : Lease) → mayAccept (Promised.To p) clock l ≡ true → isAbove p (l .ballot) ≡ false
-unfolding mayAccept isForbidden
-accept-not-below p clock l e = go (leb (l .end .0) clock) e
-  where
-    go : (t : Bool) → cond t false (not (isAbove p (l .ballot))) ≡ true → isAbove p (l .ballot) ≡ false
-    go true q = true-false (sym q)
-    go false q = not-true (isAbove p (l .ballot)) q
+accept-not-below p clock l e = allowed-not-below p (l .ballot) (accept-allowed (Promised.To p) clock l e)
 
 -- whoever accepts has promised that ballot, and holds that lease
 pub accept-promises : (l : Lease) → (afterAccept l .promised ≡ Promised.To (l .ballot)) × (afterAccept l .accepted ≡ Accepted.One l)
@@ -215,7 +225,7 @@ accept-promises l = (refl, refl)
 -- a lease that is named has its holder's end to come, and the two ends are S apart
 pub namable : (clock spread : ℕ) (e : KeepersEnd) → isNamable clock spread e ≡ true → (clock < holdersOf e spread .0) × (holdersOf e spread .0 + spread ≡ e .0)
 namable clock spread e h =
-    let l = ltb-true (clock + spread) (e .0) h in
+    let l = ltb-true (namingBound clock spread) (e .0) h in
     (omega arith, omega arith)
 
 -- where nobody is named, any holder is
@@ -267,11 +277,7 @@ higher-empty (Accepted.One l) = refl
 -- of two leases one is kept
 pub higher-one-of : (a b : Lease) → (higherOf (Accepted.One a) (Accepted.One b) ≡ Accepted.One a) ⊎ (higherOf (Accepted.One a) (Accepted.One b) ≡ Accepted.One b)
 unfolding higherOf
-higher-one-of a b = go (isAbove (b .ballot) (a .ballot))
-  where
-    go : (t : Bool) → (cond t (Accepted.One b) (Accepted.One a) ≡ Accepted.One a) ⊎ (cond t (Accepted.One b) (Accepted.One a) ≡ Accepted.One b)
-    go true = inr refl
-    go false = inl refl
+higher-one-of a b = by-test (λ (k : Accepted). (k ≡ Accepted.One a) ⊎ (k ≡ Accepted.One b)) (replacesKept a b) _ _ (λ _. inr refl) (λ _. inl refl)
 
 -- a claim's end is one's own lease's or the kept one's, and no later than both
 pub claim-end : (number clock : ℕ) (own : KeepersEnd) (l : Lease) → (claimOf number clock own (Accepted.One l) .end ≡ own) ⊎ (claimOf number clock own (Accepted.One l) .end ≡ l .end)

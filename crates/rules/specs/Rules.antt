@@ -65,10 +65,13 @@ hasEnded clock Accepted.Nothing = false
 hasEnded clock (Accepted.One l) = leb (l .end .0) clock
 
 -- 'keep the reply with the highest accepted ballot, the earlier one at a tie'
+abbrev pub replacesKept : Lease → Lease → Bool
+replacesKept a b = isAbove (b .ballot) (a .ballot)
+
 unfoldable pub higherOf : Accepted → Accepted → Accepted
 higherOf Accepted.Nothing reply = reply
 higherOf (Accepted.One a) Accepted.Nothing = Accepted.One a
-higherOf (Accepted.One a) (Accepted.One b) = cond (isAbove (b .ballot) (a .ballot)) (Accepted.One b) (Accepted.One a)
+higherOf (Accepted.One a) (Accepted.One b) = cond (replacesKept a b) (Accepted.One b) (Accepted.One a)
 
 -- 'when the count reaches a majority': the set is one, and was none before
 unfoldable pub acts : ℕ → ℕ → ℕ → Bool
@@ -109,8 +112,11 @@ afterAccept l = record { promised = Promised.To (l .ballot); accepted = Accepted
 -- ---- propose response and learn
 
 -- 'if the keepers' end is above clock + S'
+abbrev pub namingBound : ℕ → ℕ → ℕ
+namingBound clock spread = clock + spread
+
 abbrev pub isNamable : ℕ → ℕ → KeepersEnd → Bool
-isNamable clock spread end = ltb (clock + spread) (end .0)
+isNamable clock spread end = ltb (namingBound clock spread) (end .0)
 
 -- 'naming replaces a named holder only if the new ballot is higher'
 unfoldable pub namedBy : Named → Holder → Named
