@@ -1,13 +1,14 @@
 -- Laws that the methods of a cell cite: a cell within its limits and its hosts, what a step sends, and each event with its first tests
 -- passed. Assumes nothing.
 use mathlib.Core.Path.{_≡_, refl, sym, ap, _∙_}
-use mathlib.Core.Bool.{Bool, true, false, cond}
+use mathlib.Core.Bool.{Bool, true, false, cond, _&&_}
 use mathlib.Core.List.{List, [], _∷_}
-use Prim.Native.Nat.{ℕ, _<_}
+use Prim.Native.Nat.{ℕ, _≤_, _<_}
 use native.Mathlib.Omega.{arith}
-use lib.Dec.{leb, eqb}
-use lib.ListN.{set}
-use borrow.Author.Tests.{eqb-true, ltb-true, lt-ltb, le-leb, eq-eqb, ne-eqb}
+use lib.Dec.{leb}
+use lib.ListN.{length, set}
+use lib.Seq.{set-out}
+use borrow.Author.Tests.{ltb-true, lt-ltb, le-leb, ne-eqb}
 use Rattle.base.specs.Refusals.{done, unless, firstOf, refusedCell, refusedHost, refusedFull}
 use Rattle.base.proofs.Tests.{both, first-next, first-only}
 use Rattle.quorum.specs.Sets.{single, size}
@@ -26,19 +27,46 @@ use Rattle.places.specs.Places.{placesOk, clocksOk}
 use Rattle.slots.specs.declared.Slot.{Slot}
 use Rattle.slots.specs.declared.Content.{Content}
 use Rattle.slots.specs.declared.Placed.{Placed}
-use Rattle.slots.specs.Slots.{slotCount, isEmpty, slotsOk, slotRefusal, empties, fullRefusal, placed, placedEach, placedTo, placeOf, freed}
+use Rattle.slots.specs.Slots.{slotCount, emptySlot, isEmpty, slotsOk, slotRefusal, empties, fullRefusal, placed, placedEach, placedTo, placeOf, freed}
 use Rattle.slots.proofs.Laws.{Sendable, slots-in, holds-at}
 use Rattle.cell.specs.declared.Cell.{Cell}
-use Rattle.cell.specs.declared.Answered.{Answered}
 use Rattle.cell.specs.Limits.{hostAt, contentAt, cellOk}
-use Rattle.cell.specs.Events.{answered, answerWith, withHosts, withSlots, hostRefusal, messagesIn, stepFull, sentTo, stepped, startStep, startAtRefusal, startAtOf, targetOf, deliverStep, deliverFull, deliverRefusal, delivered, deliverOf, repeatRefusal, repeated, repeatOf}
-use Rattle.cell.specs.Parts.{sentIn, carriedOf, orSame, deliveredOf, repeatedOf}
+use Rattle.cell.specs.Events.{answered, answerWith, hostRefusal, messagesIn, stepFull, sentTo, stepped, startStep, startAtRefusal, startAtOf, targetOf, deliverStep, deliverFull, deliverRefusal, delivered, deliverOf, repeatRefusal, repeated, repeatOf}
+use Rattle.cell.specs.Parts.{carriedOf, deliveredOf, repeatedOf}
 
 -- ---- what the limits tell with no word on lengths
 
 pub settings-of : (c : Cell) → cellOk c ≡ true → settingsOk (c .settings) ≡ true
 unfolding cellOk
 settings-of c e = both (settingsOk (c .settings)) _ e .0
+
+-- a slot or a place that is past its limits refuses the cell; where none is, the clocks decide
+pub slots-refuse : (c : Cell) → slotsOk (c .settings .n) (c .slots) ≡ false → cellOk c ≡ false
+unfolding cellOk
+slots-refuse c e = rw e (go (settingsOk (c .settings)) (placesOk (c .settings) 0 (c .hosts)) (clocksOk (c .settings) (c .hosts)))
+  where
+    go : (a b d : Bool) → a && (b && (d && false)) ≡ false
+    go true true true = refl
+    go true true false = refl
+    go true false d = refl
+    go false b d = refl
+
+pub places-refuse : (c : Cell) → placesOk (c .settings) 0 (c .hosts) ≡ false → cellOk c ≡ false
+unfolding cellOk
+places-refuse c e = rw e (go (settingsOk (c .settings)))
+  where
+    go : (a : Bool) → a && false ≡ false
+    go true = refl
+    go false = refl
+
+pub clocks-decide : (c : Cell) → settingsOk (c .settings) ≡ true → placesOk (c .settings) 0 (c .hosts) ≡ true → slotsOk (c .settings .n) (c .slots) ≡ true
+    → cellOk c ≡ clocksOk (c .settings) (c .hosts)
+unfolding cellOk
+clocks-decide c e f g = rw (e, f, g) (go (clocksOk (c .settings) (c .hosts)))
+  where
+    go : (a : Bool) → a && true ≡ a
+    go true = refl
+    go false = refl
 
 -- n is 1 to 9
 pub n-of : (c : Cell) → cellOk c ≡ true → SettingsIn (c .settings)
@@ -71,51 +99,40 @@ by-slots : (b : Bool) (after before : List Slot) → placedBy b after before .an
 by-slots true after before e = refl
 by-slots false after before e = absurd (omega arith)
 
-sent-answer : (c : Cell) (sent : Sent) (receivers : ℕ) → sentIn c sent receivers .answer ≡ fullRefusal (messagesIn sent receivers) (c .slots)
-unfolding sentIn messagesIn placeOf
-sent-answer c Sent.Nothing receivers = rw (le-leb 0 (empties (c .slots)) (omega arith))
-sent-answer c (Sent.One m) receivers = by-answer (leb (size receivers) (empties (c .slots))) (placedTo (c .settings .n) (c .slots) m receivers) (c .slots)
+-- a step carried into the cell: it sends nothing, or a message that is refused by 13 or placed
+module _ (c : Cell) (from h : ℕ) (step : Stepped) where
+  abbrev ready : List Slot
+  ready = freed (c .slots) from
 
-sent-cell : (c : Cell) (sent : Sent) (receivers : ℕ) → sentIn c sent receivers .answer ≡ done → sentIn c sent receivers .cell ≡ withSlots c (sentTo (c .settings .n) (c .slots) sent receivers)
-unfolding sentIn sentTo placeOf
-sent-cell c Sent.Nothing receivers e = refl
-sent-cell c (Sent.One m) receivers e =
-    ap (withSlots c) (by-slots (leb (size receivers) (empties (c .slots))) (placedTo (c .settings .n) (c .slots) m receivers) (c .slots) e)
+  abbrev tried : Message → Placed
+  tried m = placeOf (c .settings .n) ready m (step .receivers)
 
--- a step carried into the cell, and its answer 13 or 0
-carried-answer : (c : Cell) (h : ℕ) (step : Stepped) → carriedOf c h step .answer ≡ stepFull (c .slots) step
-unfolding carriedOf
-carried-answer c h step = sent-answer (withHosts c (set (c .hosts) h (step .host))) (step .sent) (step .receivers)
+  abbrev after : List Slot → Cell
+  after ss = record { settings = c .settings; hosts = set (c .hosts) h (step .host); slots = ss }
 
-carried-cell : (c : Cell) (h : ℕ) (step : Stepped) → carriedOf c h step .answer ≡ done → carriedOf c h step .cell ≡ stepped c h (c .slots) step
-unfolding carriedOf stepped
-carried-cell c h step e = sent-cell (withHosts c (set (c .hosts) h (step .host))) (step .sent) (step .receivers) e
+  pub carried-nothing : step .sent ≡ Sent.Nothing → carriedOf c from h step ≡ answered done (after ready)
+  unfolding carriedOf messagesIn stepped sentTo
+  carried-nothing e = rw (e, le-leb 0 (empties ready) (omega arith))
 
--- with these slots in place of the cell's own
-carried-outcome : (c : Cell) (ss : List Slot) (h : ℕ) (step : Stepped) → carriedOf (withSlots c ss) h step .answer ≡ done → carriedOf (withSlots c ss) h step .cell ≡ stepped c h ss step
-unfolding stepped
-carried-outcome c ss h step e = carried-cell (withSlots c ss) h step e
+  tried-full : (m : Message) → step .sent ≡ Sent.One m → stepFull ready step ≡ tried m .answer
+  unfolding messagesIn placeOf
+  tried-full m e = rw e (sym (by-answer (leb (size (step .receivers)) (empties ready)) (placedTo (c .settings .n) ready m (step .receivers)) ready))
 
--- what was carried out, or the cell as it was
-same-outcome : (c : Cell) (ss : List Slot) (h : ℕ) (step : Stepped) → orSame c (carriedOf (withSlots c ss) h step) ≡ answerWith (stepFull ss step) c (stepped c h ss step)
-same-outcome c ss h step = ap (λ (k : ℕ). answerWith k c (r .cell)) same ∙ go (eqb (stepFull ss step) done) refl (carried-outcome c ss h step)
-  where
-    r : Answered
-    r = carriedOf (withSlots c ss) h step
+  tried-slots : (m : Message) → step .sent ≡ Sent.One m → tried m .answer ≡ done → stepped c h ready step ≡ after (tried m .slots)
+  unfolding stepped sentTo placeOf
+  tried-slots m e r = rw e (ap after (sym (by-slots (leb (size (step .receivers)) (empties ready)) (placedTo (c .settings .n) ready m (step .receivers)) ready r)))
 
-    same : r .answer ≡ stepFull ss step
-    same = carried-answer (withSlots c ss) h step
+  pub carried-refused : (m : Message) → step .sent ≡ Sent.One m → (tried m .answer ≡ done → ⊥) → carriedOf c from h step ≡ answered (tried m .answer) c
+  unfolding carriedOf
+  carried-refused m e r = ap (λ (k : ℕ). answerWith k c (stepped c h ready step)) (tried-full m e) ∙ rw (ne-eqb (tried m .answer) done r)
 
-    go : (b : Bool) → eqb (stepFull ss step) done ≡ b → (r .answer ≡ done → r .cell ≡ stepped c h ss step)
-        → cond b (answered done (r .cell)) (answered (stepFull ss step) c) ≡ cond b (answered done (stepped c h ss step)) (answered (stepFull ss step) c)
-    go true e f = ap (answered done) (f (same ∙ eqb-true (stepFull ss step) done e))
-    go false e f = refl
+  pub carried-placed : (m : Message) → step .sent ≡ Sent.One m → tried m .answer ≡ done → carriedOf c from h step ≡ answered done (after (tried m .slots))
+  unfolding carriedOf
+  carried-placed m e r = ap (λ (k : ℕ). answerWith k c (stepped c h ready step)) (tried-full m e ∙ r) ∙ ap (answered done) (tried-slots m e r)
 
-pub or-refused : (c : Cell) (r : Answered) → (r .answer ≡ done → ⊥) → orSame c r ≡ answered (r .answer) c
-or-refused c r e = rw (ne-eqb (r .answer) done e)
-
-pub or-done : (c : Cell) (r : Answered) → r .answer ≡ done → orSame c r ≡ r
-or-done c r e = ap (λ (b : Bool). cond b (answered done (r .cell)) (answered (r .answer) c)) (eq-eqb (r .answer) done e) ∙ ap (λ (k : ℕ). answered k (r .cell)) (sym e)
+-- where no slot has that number, none is freed
+pub none-freed : (ss : List Slot) (i : ℕ) → length ss ≤ i → freed ss i ≡ ss
+none-freed ss i b = set-out ss i emptySlot b
 
 -- a message placed to its own target alone
 own-target : (m : Message) → messageTo m (targetOf m) ≡ m
@@ -154,11 +171,12 @@ start-left : (c : Cell) (h d : ℕ) → cellOk c ≡ true → h < c .settings .n
 unfolding startAtRefusal
 start-left c h d e b r = cell-passed c _ e ∙ host-passed c h _ b ∙ first-next (startRefusal (c .settings) (hostAt c h) d) _ r ∙ first-only (stepFull (c .slots) (startStep c h d))
 
-pub start-carried : (c : Cell) (h d : ℕ) → cellOk c ≡ true → h < c .settings .n → startRefusal (c .settings) (hostAt c h) d ≡ done
-    → startAtOf c h d ≡ orSame c (carriedOf c h (startStep c h d))
-unfolding startAtOf
-start-carried c h d e b r =
-    ap (λ (k : ℕ). answerWith k c (stepped c h (c .slots) (startStep c h d))) (start-left c h d e b r) ∙ sym (same-outcome c (c .slots) h (startStep c h d))
+pub start-carried : (c : Cell) (h d : ℕ) → length (c .slots) ≡ slotCount → cellOk c ≡ true → h < c .settings .n → startRefusal (c .settings) (hostAt c h) d ≡ done
+    → startAtOf c h d ≡ carriedOf c slotCount h (startStep c h d)
+unfolding startAtOf carriedOf
+start-carried c h d l e b r =
+    ap (λ (k : ℕ). answerWith k c (stepped c h (c .slots) (startStep c h d))) (start-left c h d e b r)
+    ∙ ap (λ (ss : List Slot). answerWith (stepFull ss (startStep c h d)) c (stepped c h ss (startStep c h d))) (sym (none-freed (c .slots) slotCount (omega (arith, l))))
 
 deliver-left : (c : Cell) (i : ℕ) (m : Message) → cellOk c ≡ true → i < slotCount → contentAt c i ≡ Content.One m
     → deliverRefusal c i ≡ stepFull (freed (c .slots) i) (deliverStep c m)
@@ -168,11 +186,10 @@ deliver-left c i m e b f =
     ∙ first-only (stepFull (freed (c .slots) i) (deliverStep c m))
 
 pub deliver-carried : (c : Cell) (i : ℕ) (m : Message) → cellOk c ≡ true → i < slotCount → contentAt c i ≡ Content.One m → deliverOf c i ≡ deliveredOf c i m
-unfolding deliverOf deliveredOf delivered
+unfolding deliverOf carriedOf delivered
 deliver-carried c i m e b f =
     ap (λ (k : ℕ). answerWith k c (delivered c i (contentAt c i))) (deliver-left c i m e b f)
     ∙ ap (λ (t : Content). answerWith (stepFull (freed (c .slots) i) (deliverStep c m)) c (delivered c i t)) f
-    ∙ sym (same-outcome c (freed (c .slots) i) (targetOf m) (deliverStep c m))
 
 repeat-left : (c : Cell) (i : ℕ) (m : Message) → cellOk c ≡ true → i < slotCount → contentAt c i ≡ Content.One m → repeatRefusal c i ≡ fullRefusal 1 (c .slots)
 unfolding repeatRefusal

@@ -20,6 +20,7 @@ use host::Sent;
 use host::Stepped;
 use message::LAST_TICK;
 use message::Message;
+use places::PLACES;
 use slots::Content;
 use slots::SLOTS;
 use slots::Slot;
@@ -95,6 +96,7 @@ pub fn open(s: Settings, clock: u64) -> Answered
 }
 
 impl Cell {
+    // One walk over slots and places, which finds the largest and the smallest clock on its way.
     fn within_limits(self) -> bool
         ensures { λ r. ⌜ r ≡ cellOk self ⌝ }
     {
@@ -102,34 +104,57 @@ impl Cell {
         if !state::settings_ok(s) {
             return false;
         }
-        let hosts = self.hosts;
-        if !places::places_ok(s, hosts) {
-            return false;
+        let n = s.n as usize;
+        let first = self.hosts[0];
+        let mut high = first.clock;
+        let mut low = first.clock;
+        let mut i: usize = 0;
+        while i < SLOTS {
+            let held = self.slots[i];
+            let content = held.content;
+            if !slots::content_ok(s.n, content) {
+                return false;
+            }
+            if i < PLACES {
+                let h = self.hosts[i];
+                if !places::place_ok(s, i, h) {
+                    return false;
+                }
+                if i < n {
+                    high = places::later_of(high, h.clock);
+                    low = places::earlier_of(low, h.clock);
+                }
+            }
+            i += 1;
         }
-        if !places::clocks_ok(s, hosts) {
-            return false;
-        }
-        let slots = self.slots;
-        slots::slots_ok(s.n, slots)
+        high - low <= s.spread as u64
     }
 
-    // A host is replaced, and what it sends is placed; the answer is that of placing.
-    fn carried(self, at: usize, step: Stepped) -> Answered
+    // A host is replaced, a slot freed (96: none) and what the host sends is placed; where that is refused, nothing is changed.
+    fn carried(self, from: usize, at: usize, step: Stepped) -> Answered
         requires { ⌜ (at < 9) × (self .settings .n ≤ 16) ⌝ }
-        ensures { λ r. ⌜ r ≡ carriedOf self at step ⌝ }
+        ensures { λ r. ⌜ r ≡ carriedOf self from at step ⌝ }
     {
         let sent = step.sent;
         let host = step.host;
         let mut c = self;
         c.hosts[at] = host;
+        if from < SLOTS {
+            c.slots[from] = Slot {
+                content: Content::Empty,
+            };
+        }
         match sent {
             Sent::Nothing => answered_with(DONE, c),
             Sent::One(m) => {
                 let slots = c.slots;
                 let placed = slots::place(slots, c.settings.n, m, step.receivers);
+                if placed.answer != DONE {
+                    return answered_with(placed.answer, self);
+                }
                 let under_way = placed.slots;
                 c.slots = under_way;
-                answered_with(placed.answer, c)
+                answered_with(DONE, c)
             }
         }
     }
@@ -191,11 +216,7 @@ impl Cell {
         if step.answer != DONE {
             return answered_with(step.answer, self);
         }
-        let r = self.carried(host as usize, step);
-        if r.answer != DONE {
-            return answered_with(r.answer, self);
-        }
-        r
+        self.carried(SLOTS, host as usize, step)
     }
 
     // The message of slot i is delivered: its slot counts as empty for what its receiver sends.
@@ -206,15 +227,7 @@ impl Cell {
         let target = message::numbers_of(m).target as usize;
         let h = self.hosts[target];
         let step = h.receive(self.settings, m);
-        let mut freed = self;
-        freed.slots[i] = Slot {
-            content: Content::Empty,
-        };
-        let r = freed.carried(target, step);
-        if r.answer != DONE {
-            return answered_with(r.answer, self);
-        }
-        r
+        self.carried(i, target, step)
     }
 
     pub fn deliver(self, slot: u8) -> Answered

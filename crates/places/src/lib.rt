@@ -5,7 +5,7 @@ ghost use mathlib.Core.Bool.{true};
 ghost use Prim.Native.Nat.{_<_, _≤_, max, min};
 ghost use Rattle.message.specs.Message.{lastTick};
 ghost use Rattle.state.specs.Limits.{settingsOk};
-ghost use Rattle.places.specs.Places.{noPromise, noLease, noTick, noRound, noHolder, isBlankState, isBlank, placeOk, placesOk, clocksOk, newHost, newHosts, advancesOf};
+ghost use Rattle.places.specs.Places.{noPromise, noLease, noTick, noRound, noHolder, isBlankState, isBlank, placeOk, clocksOk, newHost, newHosts, advancesOf};
 use base::DONE;
 use host::Host;
 use rules::Accepted;
@@ -17,7 +17,7 @@ use state::Settings;
 use state::State;
 
 // How many places for hosts a cell has: as many as a cell may have hosts.
-const PLACES: usize = 9;
+pub const PLACES: usize = 9;
 
 // What an advance of all hosts gives: the answer's number and the hosts.
 pub struct Advanced {
@@ -92,7 +92,7 @@ fn is_blank(h: Host) -> bool
 }
 
 // Whether place i holds what it may.
-fn place_ok(s: Settings, i: usize, h: Host) -> bool
+pub fn place_ok(s: Settings, i: usize, h: Host) -> bool
     ensures { λ r. ⌜ r ≡ placeOk s i h ⌝ }
 {
     if i < s.n as usize {
@@ -101,21 +101,7 @@ fn place_ok(s: Settings, i: usize, h: Host) -> bool
     is_blank(h)
 }
 
-pub fn places_ok(s: Settings, hosts: [Host; 9]) -> bool
-    ensures { λ r. ⌜ r ≡ placesOk s 0 hosts ⌝ }
-{
-    let mut i: usize = 0;
-    while i < PLACES {
-        let h = hosts[i];
-        if !place_ok(s, i, h) {
-            return false;
-        }
-        i += 1;
-    }
-    true
-}
-
-fn later_of(a: u64, b: u64) -> u64
+pub fn later_of(a: u64, b: u64) -> u64
     ensures { λ r. ⌜ r ≡ max a b ⌝ }
 {
     if a < b {
@@ -124,7 +110,7 @@ fn later_of(a: u64, b: u64) -> u64
     a
 }
 
-fn earlier_of(a: u64, b: u64) -> u64
+pub fn earlier_of(a: u64, b: u64) -> u64
     ensures { λ r. ⌜ r ≡ min a b ⌝ }
 {
     if b < a {

@@ -163,8 +163,8 @@ claim-live-kept number clock own l h =
     rw (lt-leb (l .end .0) clock h)
     (by-test Kept (eqb (l .owner) number) _ _
     (λ p.
-      let o = eqb-true (l .owner) number p in
-      by-test Kept (leb (l .end .0) (own .0)) _ _ (λ q. (cc, leb-true (l .end .0) (own .0) q)) (λ q. (cc, omega arith)))
+    let o = eqb-true (l .owner) number p in
+    by-test Kept (leb (l .end .0) (own .0)) _ _ (λ q. (cc, leb-true (l .end .0) (own .0) q)) (λ q. (cc, omega arith)))
     (λ p. (refl, omega arith)))
   where
     Kept : Claim → Type 0

@@ -1,14 +1,12 @@
-use mathlib.Core.Path.{_≡_, sym, ap, _∙_}
-use native.Mathlib.Omega.{arith}
-use Rattle.message.specs.declared.Numbers.{Numbers}
-use Rattle.host.proofs.Kept.{message-done, message-passed}
-use Rattle.slots.specs.Slots.{freed}
-use Rattle.base.proofs.Lists.{length-mapped}
-use Rattle.cell.specs.Limits.{hostAt}
-use Rattle.cell.specs.Events.{withSlots, targetOf, deliverStep}
-use Rattle.cell.specs.Parts.{carriedOf, orSame, deliveredOf}
+use Rattle.cell.proofs.Methods.{n-of, target-in}
 use Rattle.cell.proofs.Limits.{Sized, cell-in}
-use Rattle.cell.proofs.Methods.{n-of, target-in, or-refused, or-done}
+use Rattle.cell.specs.Events.{targetOf}
+use Rattle.cell.specs.Limits.{hostAt}
+use Rattle.base.proofs.Lists.{length-mapped}
+use Rattle.host.proofs.Kept.{message-done, message-passed}
+use Rattle.message.specs.declared.Numbers.{Numbers}
+use native.Mathlib.Omega.{arith}
+use mathlib.Core.Path.{sym, ap}
 use borrow.Author.Needs.{needs}
 use Rattle.cell.proofs.Cell.delivered_at.Statement.{statement}
 use Rattle.cell.proofs.Cell.delivered_at.Tie as tie
@@ -16,16 +14,6 @@ use Rattle.cell.proofs.Cell.delivered_at.Tie as tie
 -- the places and slots of the cell that was handed in
 sized : (c : tie.Start) → Sized (c .args .t1)
 sized c = record { hosts = search (needs, length-mapped); slots = search (needs, length-mapped) }
-
--- what is carried out is the step of the message's target, with its slot emptied
-step-carried : (c : tie.After-carried) → c .carried .result ≡ carriedOf (withSlots (c .before .before .before .before .before .before .args .t1) (freed (c .before .before .before .before .before .before .args .t1 .slots) (c .before .before .before .before .before .before .args .i))) (targetOf (c .before .before .before .before .before .before .args .m)) (deliverStep (c .before .before .before .before .before .before .args .t1) (c .before .before .before .before .before .before .args .m))
-step-carried c =
-    let a = c .before .before .before .before .before .before .args in
-    let p = c .before .before .before .before .before .before .pre in
-    let i = cell-in (a .t1) (sized (c .before .before .before .before .before .before)) (p .0) in
-    let b = target-in (a .t1 .settings .n) (a .m) (p .1 .1) in
-    let t = targetOf (a .m) in
-    rw (c .carried .ensures, c .before .receive .ensures, c .before .before .before .before .before .numbers-of .ensures, message-done (a .t1 .settings) (hostAt (a .t1) t) (a .m) (message-passed (a .t1 .settings) (hostAt (a .t1) t) (a .m) (i .host t b) (p .1 .1) (sym (i .number t b))))
 
 numbers-of-requires : tie.Need-numbers-of-requires
 numbers-of-requires c κs = search needs
@@ -45,28 +33,20 @@ element-copy-out-h c =
 receive-requires : tie.Need-receive-requires
 receive-requires c κs = search needs
 
-mul-t11 : tie.Need-mul-t11
-mul-t11 c = search needs
-
-element-set-from-freed : tie.Need-element-set-from-freed
-element-set-from-freed c = search needs
-
 carried-requires : tie.Need-carried-requires
 carried-requires c κs =
     let i = n-of (c .before .before .before .before .before .args .t1) (c .before .before .before .before .before .pre .0) in
     let t = target-in (c .before .before .before .before .before .args .t1 .settings .n) (c .before .before .before .before .before .args .m) (c .before .before .before .before .before .pre .1 .1) in
     (omega (arith, i .few, t, ap (λ (f : Numbers). f .target) (c .before .before .before .before .numbers-of .ensures)), omega (arith, i .few))
 
-answered-with-requires : tie.Need-answered-with-requires
-answered-with-requires c κs = search needs
-
 returns : tie.Need-returns
-unfolding deliveredOf
-returns c = c .answered-with .ensures ∙ sym (ap (orSame (c .before .before .before .before .before .before .before .before .before .args .t1)) (sym (step-carried (c .before .before .before))) ∙ or-refused (c .before .before .before .before .before .before .before .before .before .args .t1) (c .before .before .before .carried .result) (c .before .if1 .taken))
-
-returns-2 : tie.Need-returns-2
-unfolding deliveredOf
-returns-2 c = sym (ap (orSame (c .before .before .before .before .before .before .before .before .args .t1)) (sym (step-carried (c .before .before))) ∙ or-done (c .before .before .before .before .before .before .before .before .args .t1) (c .before .before .carried .result) (c .if1 .left))
+returns c =
+    let a = c .before .before .before .before .before .before .args in
+    let p = c .before .before .before .before .before .before .pre in
+    let i = cell-in (a .t1) (sized (c .before .before .before .before .before .before)) (p .0) in
+    let b = target-in (a .t1 .settings .n) (a .m) (p .1 .1) in
+    let t = targetOf (a .m) in
+    rw (c .carried .ensures, c .before .receive .ensures, c .before .before .before .before .before .numbers-of .ensures, message-done (a .t1 .settings) (hostAt (a .t1) t) (a .m) (message-passed (a .t1 .settings) (hostAt (a .t1) t) (a .m) (i .host t b) (p .1 .1) (sym (i .number t b))))
 
 pub delivered-at-spec : {M : Type 1} → statement M
 delivered-at-spec =
@@ -77,9 +57,5 @@ delivered-at-spec =
     mul-h
     element-copy-out-h
     receive-requires
-    mul-t11
-    element-set-from-freed
     carried-requires
-    answered-with-requires
-    returns
-    returns-2)
+    returns)

@@ -1,30 +1,25 @@
-use mathlib.Core.Path.{_≡_, sym, ap, _∙_}
-use mathlib.Core.Bool.{true}
-use native.Mathlib.Omega.{arith}
-use borrow.Author.Tests.{not-true, not-false, ne-eqb, lt-ltb, le-ltb}
-use Rattle.base.specs.Refusals.{done, firstOf}
-use Rattle.host.specs.declared.Stepped.{Stepped}
-use Rattle.host.specs.Steps.{startRefusal}
-use Rattle.host.proofs.Kept.{answer-start, start-done}
-use Rattle.cell.specs.Limits.{hostAt, cellOk}
+use Rattle.cell.proofs.Methods.{n-of, start-carried}
+use Rattle.cell.specs.Parts.{carriedOf}
 use Rattle.cell.specs.Events.{startAtRefusal, startAtOf}
-use Rattle.cell.specs.Parts.{carriedOf, orSame}
-use Rattle.cell.proofs.Methods.{n-of, start-carried, or-refused, or-done}
+use Rattle.cell.specs.Limits.{hostAt, cellOk}
+use Rattle.slots.specs.Slots.{slotCount}
+use Rattle.host.proofs.Kept.{answer-start, start-done}
+use Rattle.host.specs.Steps.{startRefusal}
+use Rattle.host.specs.declared.Stepped.{Stepped}
+use Rattle.base.proofs.Lists.{length-mapped}
+use Rattle.base.specs.Refusals.{done, firstOf}
+use borrow.Author.Tests.{not-true, not-false, ne-eqb, lt-ltb, le-ltb}
+use lib.ListN.{length}
+use native.Mathlib.Omega.{arith}
+use mathlib.Core.Bool.{true}
+use mathlib.Core.Path.{_≡_, sym, ap, _∙_}
 use borrow.Author.Needs.{needs}
 use Rattle.cell.proofs.Cell.start.Statement.{statement}
 use Rattle.cell.proofs.Cell.start.Tie as tie
 
--- what is carried out is the start of the host, where nothing but 13 is left to refuse it
-step-carried : (c : tie.After-carried) → startAtOf (c .before .before .before .before .before .before .before .before .before .before .args .t1) (c .before .before .before .before .before .before .before .before .before .before .args .host) (c .before .before .before .before .before .before .before .before .before .before .args .duration) ≡ orSame (c .before .before .before .before .before .before .before .before .before .before .args .t1) (c .carried .result)
-step-carried c =
-    let a = c .before .before .before .before .before .before .before .before .before .before .args in
-    let s = a .t1 .settings in
-    let h = hostAt (a .t1) (a .host) in
-    let p = c .before .before .before .start in
-    let o : cellOk (a .t1) ≡ true = sym (c .before .before .before .before .before .before .before .before .before .within-limits .ensures) ∙ not-false (c .before .before .before .before .before .before .before .before .before .within-limits .result) (c .before .before .before .before .before .before .before .before .if1 .left) in
-    let e : startRefusal s h (a .duration) ≡ done = sym (ap (λ (x : Stepped). x .answer) (p .ensures) ∙ answer-start s h (a .duration)) ∙ c .before .if3 .left in
-    start-carried (a .t1) (a .host) (a .duration) o (c .before .before .before .before .before .if2 .left) e
-    ∙ ap (orSame (a .t1)) (sym (c .carried .ensures ∙ ap (carriedOf (a .t1) (a .host)) (p .ensures ∙ start-done s h (a .duration) e)))
+-- there are 96 slots
+sized : (c : tie.Start) → length (c .args .t1 .slots) ≡ 96
+sized c = search (needs, length-mapped)
 
 within-limits-requires : tie.Need-within-limits-requires
 within-limits-requires c κs = search needs
@@ -72,14 +67,16 @@ carried-requires c κs =
     let i = n-of (c .before .before .before .before .before .before .before .before .before .args .t1) (sym (c .before .before .before .before .before .before .before .before .within-limits .ensures) ∙ not-false (c .before .before .before .before .before .before .before .before .within-limits .result) (c .before .before .before .before .before .before .before .if1 .left)) in
     (omega (arith, i .few, c .before .before .before .before .if2 .left), omega (arith, i .few))
 
-answered-with-requires-4 : tie.Need-answered-with-requires-4
-answered-with-requires-4 c κs = search needs
-
 returns-4 : tie.Need-returns-4
-returns-4 c = c .answered-with4 .ensures ∙ sym (step-carried (c .before .before .before) ∙ or-refused (c .before .before .before .before .before .before .before .before .before .before .before .before .before .args .t1) (c .before .before .before .carried .result) (c .before .if4 .taken))
-
-returns-5 : tie.Need-returns-5
-returns-5 c = sym (step-carried (c .before .before) ∙ or-done (c .before .before .before .before .before .before .before .before .before .before .before .before .args .t1) (c .before .before .carried .result) (c .if4 .left))
+returns-4 c =
+    let a = c .before .before .before .before .before .before .before .before .before .before .args in
+    let s = a .t1 .settings in
+    let h = hostAt (a .t1) (a .host) in
+    let p = c .before .before .before .start in
+    let o : cellOk (a .t1) ≡ true = sym (c .before .before .before .before .before .before .before .before .before .within-limits .ensures) ∙ not-false (c .before .before .before .before .before .before .before .before .before .within-limits .result) (c .before .before .before .before .before .before .before .before .if1 .left) in
+    let e : startRefusal s h (a .duration) ≡ done = sym (ap (λ (x : Stepped). x .answer) (p .ensures) ∙ answer-start s h (a .duration)) ∙ c .before .if3 .left in
+    c .carried .ensures ∙ ap (carriedOf (a .t1) slotCount (a .host)) (p .ensures ∙ start-done s h (a .duration) e)
+    ∙ sym (start-carried (a .t1) (a .host) (a .duration) (sized (c .before .before .before .before .before .before .before .before .before .before)) o (c .before .before .before .before .before .if2 .left) e)
 
 pub start-spec : {M : Type 1} → statement M
 start-spec =
@@ -96,6 +93,4 @@ start-spec =
     answered-with-requires-3
     returns-3
     carried-requires
-    answered-with-requires-4
-    returns-4
-    returns-5)
+    returns-4)
