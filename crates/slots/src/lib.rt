@@ -1,8 +1,8 @@
-// The messages under way: 96 slots, each empty or holding one message. Whether they are within their limits, and placing a message to
-// a set of receivers.
+// The messages under way: 96 slots, each empty or holding one message. Whether a slot is within its limits, and placing a
+// message to a set of receivers.
 ghost use mathlib.Core.Path.{_≡_};
 ghost use Prim.Native.Nat.{_≤_};
-ghost use Rattle.slots.specs.Slots.{isEmpty, contentOk, slotsOk, noMessages, empties, lowest, placeOf};
+ghost use Rattle.slots.specs.Slots.{isEmpty, contentOk, noMessages, empties, placeOf};
 use base::DONE;
 use base::REFUSED_FULL;
 use message::Message;
@@ -45,21 +45,6 @@ pub fn content_ok(n: u8, c: Content) -> bool
     }
 }
 
-pub fn slots_ok(n: u8, slots: [Slot; 96]) -> bool
-    ensures { λ r. ⌜ r ≡ slotsOk n slots ⌝ }
-{
-    let mut i: usize = 0;
-    while i < SLOTS {
-        let s = slots[i];
-        let c = s.content;
-        if !content_ok(n, c) {
-            return false;
-        }
-        i += 1;
-    }
-    true
-}
-
 // The slots of a cell that opens.
 pub fn no_messages() -> [Slot; 96]
     ensures { λ r. ⌜ r ≡ noMessages ⌝ }
@@ -87,22 +72,6 @@ fn empties_in(slots: [Slot; 96]) -> usize
     count
 }
 
-// The lowest empty slot, or 96.
-fn lowest_in(slots: [Slot; 96]) -> usize
-    ensures { λ r. ⌜ r ≡ lowest slots ⌝ }
-{
-    let mut i: usize = 0;
-    while i < SLOTS {
-        let held = slots[i];
-        let content = held.content;
-        if is_empty(content) {
-            return i;
-        }
-        i += 1;
-    }
-    SLOTS
-}
-
 // Places a message to each host of a set below n, in rising order: 13 where there are too few empty slots, and then none is placed.
 pub fn place(slots: [Slot; 96], n: u8, m: Message, receivers: u16) -> Placed
     requires { ⌜ n ≤ 16 ⌝ }
@@ -115,21 +84,27 @@ pub fn place(slots: [Slot; 96], n: u8, m: Message, receivers: u16) -> Placed
         };
     }
     let f = message::numbers_of(m);
-    let mut after = slots;
+    let mut after = Placed {
+        answer: DONE,
+        slots,
+    };
+    // One walk for all receivers: the slots below i are taken.
     let mut h: u8 = 0;
-    while h < n {
+    let mut i: usize = 0;
+    while (h < n) & (i < SLOTS) {
         if quorum::has(receivers, h) {
-            let i = lowest_in(after);
-            if i < SLOTS {
-                after[i] = Slot {
+            let held = after.slots[i];
+            let content = held.content;
+            if is_empty(content) {
+                after.slots[i] = Slot {
                     content: Content::One(message::message_of(message::with_target(f, h))),
                 };
+                h += 1;
             }
+            i += 1;
+        } else {
+            h += 1;
         }
-        h += 1;
     }
-    Placed {
-        answer: DONE,
-        slots: after,
-    }
+    after
 }

@@ -10,13 +10,13 @@ use Rattle.slots.proofs.empties_in.Statement.{statement}
 use Rattle.slots.proofs.empties_in.Tie as tie
 
 abbrev Inv-loop : tie.InvT-loop
-Inv-loop slots i₀ count₀ i count = (length slots ≡ 96) × (i ≤ 96) × (count ≤ i) × (empties slots ≡ count + empties (drop i slots))
+Inv-loop slots i₀ count₀ i count = (length slots ≡ 96) × (i ≤ 96) × (empties slots ≡ count + empties (drop i slots)) × (count ≤ i)
 
 abbrev μ-loop : tie.MeasureT-loop
 μ-loop slots i₀ count₀ i count = 96 - i
 
 loop-holds : tie.Need-loop-holds Inv-loop μ-loop
-loop-holds c = (search needs, search needs, search needs, omega arith)
+loop-holds c = (search needs, search needs, omega arith, search needs)
 
 mul-s : tie.Need-mul-s Inv-loop μ-loop
 mul-s c = search needs

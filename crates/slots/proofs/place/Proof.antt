@@ -1,31 +1,40 @@
 use borrow.Author.Needs.{needs}
-use borrow.Author.Tests.{lt-leb, le-leb}
-use mathlib.Core.Logic.{⊎-elim}
-use mathlib.Core.List.{List}
-use mathlib.Core.Path.{_≡_, sym, ap, _∙_}
-use mathlib.Core.Bool.{true}
-use Prim.Native.Nat.{ℕ, _≤_, _-_, _+_}
-use native.Mathlib.Nat.{sub-zero}
+use borrow.Author.Tests.{ltb-true, ltb-false, lt-leb, le-leb}
+use mathlib.Core.Logic.{_⊎_, inl, inr, ⊎-elim}
+use mathlib.Core.Path.{_≡_, refl, sym, ap, _∙_}
+use mathlib.Core.Bool.{Bool, true, false, _&&_}
+use Prim.Native.Nat.{ℕ, _≤_, _<_, _-_, _+_}
 use native.Mathlib.Omega.{arith}
-use lib.ListN.{length, set}
-use lib.Seq.{set-out}
-use Rattle.quorum.specs.Sets.{size, membersFrom, members}
+use lib.Dec.{ltb}
+use Rattle.base.proofs.Tests.{both}
+use Rattle.quorum.specs.Sets.{size}
 use Rattle.message.specs.declared.Numbers.{Numbers}
-use Rattle.message.specs.declared.Message.{Message}
 use Rattle.message.specs.Message.{numbersOf, messageOf, withTarget, messageTo}
 use Rattle.message.proofs.Laws.{message-numbers}
-use Rattle.slots.specs.declared.Slot.{Slot}
-use Rattle.slots.specs.Slots.{empties, slotWith, lowest, placed, placedEach, placeOf}
-use Rattle.slots.proofs.Laws.{length-placed}
-use Rattle.slots.proofs.Walks.{placed-turn, placed-skip}
+use Rattle.slots.specs.Slots.{empties, placeOf}
+use Rattle.slots.proofs.Walks.{Placing, placing-first, placing-skip, placing-on, placing-fill, placing-last}
 use Rattle.slots.proofs.place.Statement.{statement}
 use Rattle.slots.proofs.place.Tie as tie
 
+-- what the loop's test says, taken and left
+host-below : (h n i : ℕ) → (ltb h n && ltb i 96) ≡ true → h < n
+host-below h n i e = ltb-true h n (both (ltb h n) (ltb i 96) e .0)
+
+slot-below : (h n i : ℕ) → (ltb h n && ltb i 96) ≡ true → i < 96
+slot-below h n i e = ltb-true i 96 (both (ltb h n) (ltb i 96) e .1)
+
+past : (h n i : ℕ) → (ltb h n && ltb i 96) ≡ false → (n ≤ h) ⊎ (96 ≤ i)
+past h n i e = go (ltb h n) refl e
+  where
+    go : (b : Bool) → ltb h n ≡ b → (b && ltb i 96) ≡ false → (n ≤ h) ⊎ (96 ≤ i)
+    go true p q = inr (ltb-false i 96 q)
+    go false p q = inl (ltb-false h n p)
+
 abbrev Inv-loop : tie.InvT-loop
-Inv-loop n receivers f after₀ h₀ after h = (n ≤ 16) × (h ≤ n) × (numbersOf (messageOf f) ≡ f) × (length after ≡ 96) × (placedEach after (messageOf f) (membersFrom receivers h (n - h)) ≡ placedEach after₀ (messageOf f) (members n receivers))
+Inv-loop n receivers f after₀ h₀ i₀ after h i = (n ≤ 16) × (numbersOf (messageOf f) ≡ f) × (after .answer ≡ after₀ .answer) × Placing n receivers (messageOf f) (after₀ .slots) (after .slots) h i
 
 abbrev μ-loop : tie.MeasureT-loop
-μ-loop n receivers f after₀ h₀ after h = n - h
+μ-loop n receivers f after₀ h₀ i₀ after h i = (n - h) + (96 - i)
 
 empties-in-requires : tie.Need-empties-in-requires Inv-loop μ-loop
 empties-in-requires c κs = search needs
@@ -46,13 +55,21 @@ numbers-of-requires : tie.Need-numbers-of-requires Inv-loop μ-loop
 numbers-of-requires c κs = search needs
 
 loop-holds : tie.Need-loop-holds Inv-loop μ-loop
-loop-holds c = (c .before .before .before .before .pre, omega arith, rw (c .numbers-of .ensures, message-numbers (c .before .before .before .before .args .m)), search needs, simp sub-zero)
+loop-holds c =
+    let a = c .before .before .before .before .args in
+    (c .before .before .before .before .pre, rw (c .numbers-of .ensures, message-numbers (a .m)), refl, placing-first (a .n) (a .receivers) (messageOf (c .numbers-of .result)) (a .slots) (search needs))
 
 has-requires : tie.Need-has-requires Inv-loop μ-loop
-has-requires c κs = search needs
+has-requires c κs = omega (arith, host-below)
 
-lowest-in-requires : tie.Need-lowest-in-requires Inv-loop μ-loop
-lowest-in-requires c κs = search needs
+mul-held : tie.Need-mul-held Inv-loop μ-loop
+mul-held c = search needs
+
+element-copy-out-held : tie.Need-element-copy-out-held Inv-loop μ-loop
+element-copy-out-held c = omega (arith, slot-below)
+
+is-empty-requires : tie.Need-is-empty-requires Inv-loop μ-loop
+is-empty-requires c κs = search needs
 
 with-target-requires : tie.Need-with-target-requires Inv-loop μ-loop
 with-target-requires c κs = search needs
@@ -60,64 +77,53 @@ with-target-requires c κs = search needs
 message-of-requires : tie.Need-message-of-requires Inv-loop μ-loop
 message-of-requires c κs = search needs
 
-mul-after : tie.Need-mul-after Inv-loop μ-loop
-mul-after c = search needs
-
-array-set-from-after : tie.Need-array-set-from-after Inv-loop μ-loop
-array-set-from-after c = search needs
+element-set-from-after : tie.Need-element-set-from-after Inv-loop μ-loop
+element-set-from-after c = omega (arith, slot-below)
 
 add-h : tie.Need-add-h Inv-loop μ-loop
 add-h c = search needs
 
+add-i : tie.Need-add-i Inv-loop μ-loop
+add-i c = search needs
+
 loop-less : tie.Need-loop-less Inv-loop μ-loop
-loop-less c = search needs
+loop-less c = ⊎-elim (λ w. omega (arith, slot-below)) (λ w. omega (arith, slot-below)) (c .if3 .came)
 
 loop-again : tie.Need-loop-again Inv-loop μ-loop
-unfolding placed messageTo
+unfolding messageTo
 loop-again c =
-    let l = c .before .before .before .loop in
-    let a = c .before .before .before .before .before .before .before .before .args in
-    let f = c .before .before .before .before .numbers-of .result in
-    let ms = messageOf f in
-    let to = messageTo ms (l .h) in
-    let more = membersFrom (a .receivers) (l .h + 1) (a .n - (l .h + 1)) in
-    let b = c .before .before .loop-test .taken in
-    let same : messageOf (withTarget f (l .h)) ≡ to = ap (λ (g : Numbers). messageOf (withTarget g (l .h))) (sym (l .inv .2)) in
-    let whole : List Slot → Type 0 = λ x. (a .n ≤ 16) × (l .h + 1 ≤ a .n) × (numbersOf ms ≡ f) × (length x ≡ 96) × (placedEach x ms more ≡ placedEach (a .slots) ms (members (a .n) (a .receivers))) in
-    let turn : (x : List Slot) → x ≡ placed (l .after) to → c .before .has .result ≡ true → whole x =
-    λ x q e. (
-      l .inv .0,
-      omega arith,
-      l .inv .2,
-      ap length q ∙ length-placed (l .after) to ∙ l .inv .3,
-      ap (λ (y : List Slot). placedEach y ms more) q ∙ sym (placed-turn (l .after) ms (a .receivers) (l .h) (a .n) b (sym (c .before .has .ensures) ∙ e)) ∙ l .inv .4,
-    ) in
+    let l = c .before .before .before .before .before .before .loop in
+    let turn = sym (c .before .before .before .before .has .ensures) ∙ c .before .before .before .if2 .taken in
+    let empty = c .before .is-empty .ensures in
     ⊎-elim
-    (λ w. turn (c .if2 .after)
-    (w .5 ∙ ap (λ (k : ℕ). set (l .after) k (slotWith (w .4 .result))) (w .1 .ensures) ∙ ap (λ (y : Message). set (l .after) (lowest (l .after)) (slotWith y)) (w .4 .ensures ∙ ap messageOf (w .3 .ensures) ∙ same))
-    (w .0 .taken))
-    (⊎-elim
-    (λ w. turn (c .if2 .after) (w .3 ∙ sym (set-out (l .after) (lowest (l .after)) (slotWith to) (omega (arith, w .1 .ensures, w .2 .left, l .inv .3)))) (w .0 .taken))
-    (λ w. (
-      l .inv .0,
-      omega arith,
-      l .inv .2,
-      ap length (w .1) ∙ l .inv .3,
-      ap (λ (y : List Slot). placedEach y ms more) (w .1) ∙ sym (placed-skip (l .after) ms (a .receivers) (l .h) (a .n) b (sym (c .before .has .ensures) ∙ w .0 .left)) ∙ l .inv .4,
-    )))
-    (c .if2 .came)
+    (λ w.
+    let own = w .2 .ensures ∙ ap messageOf (w .1 .ensures) ∙ ap (λ (f : Numbers). messageOf (withTarget f (l .h))) (sym (l .inv .1)) in
+    rw (w .3, w .4) (l .inv .0, l .inv .1, l .inv .2, placing-fill (l .inv .3) (w .2 .result) (omega (arith, host-below)) (omega (arith, slot-below)) turn (sym empty ∙ w .0 .taken) own))
+    (λ w. rw (w .1, w .2) (l .inv .0, l .inv .1, l .inv .2, placing-on (l .inv .3) (omega (arith, slot-below)) (sym empty ∙ w .0 .left)))
+    (c .if3 .came)
+
+add-h-2 : tie.Need-add-h-2 Inv-loop μ-loop
+add-h-2 c = search needs
+
+loop-less-2 : tie.Need-loop-less-2 Inv-loop μ-loop
+loop-less-2 c = omega (arith, host-below)
+
+loop-again-2 : tie.Need-loop-again-2 Inv-loop μ-loop
+loop-again-2 c =
+    let l = c .before .before .before .loop in
+    (l .inv .0, l .inv .1, l .inv .2, placing-skip (l .inv .3) (omega (arith, host-below)) (sym (c .before .has .ensures) ∙ c .if2 .left))
 
 returns-2 : tie.Need-returns-2 Inv-loop μ-loop
-unfolding placeOf placedEach membersFrom
+unfolding placeOf
 returns-2 c =
     let a = c .before .before .before .before .before .before .args in
     let l = c .before .loop in
     let f = c .before .before .numbers-of .result in
-    let z : a .n - l .h ≡ 0 = omega (arith, c .loop-test .left) in
     let own : messageOf f ≡ a .m = ap messageOf (c .before .before .numbers-of .ensures) ∙ message-numbers (a .m) in
-    let same : l .after ≡ placedEach (a .slots) (a .m) (members (a .n) (a .receivers)) = rw (z, own) at (l .inv .4) in
-    rw (le-leb (size (a .receivers)) (empties (a .slots)) (omega (arith, c .before .before .before .before .count .ensures, c .before .before .before .before .before .empties-in .ensures, c .before .before .before .if1 .left)), ← same)
+    let all = placing-last (l .inv .3) (past (l .h) (a .n) (l .i) (c .loop-test .left)) in
+    rw (le-leb (size (a .receivers)) (empties (a .slots)) (omega (arith, c .before .before .before .before .count .ensures, c .before .before .before .before .before .empties-in .ensures, c .before .before .before .if1 .left)), ← own, ← all, ← l .inv .2)
 
+-- the answer with no name is to the need of the store, whose name counts the locals before it
 pub place-spec : {M : Type 1} → statement M
 place-spec =
     tie.close
@@ -131,12 +137,18 @@ place-spec =
     numbers-of-requires
     loop-holds
     has-requires
-    lowest-in-requires
+    mul-held
+    element-copy-out-held
+    is-empty-requires
     with-target-requires
     message-of-requires
-    mul-after
-    array-set-from-after
+    (λ c. search needs)
+    element-set-from-after
     add-h
+    add-i
     loop-less
     loop-again
+    add-h-2
+    loop-less-2
+    loop-again-2
     returns-2)
