@@ -5,9 +5,9 @@ use mathlib.Core.Bool.{Bool, true, false, cond, _&&_}
 use mathlib.Core.List.{List, [], _∷_}
 use Prim.Native.Nat.{ℕ, _≤_, _<_}
 use native.Mathlib.Omega.{arith}
-use lib.Dec.{leb}
-use lib.ListN.{length, set}
-use lib.Seq.{set-out}
+use lib.Dec.{leb, eqb}
+use lib.ListN.{getD, set}
+use lib.Seq.{set-getD, set-set}
 use borrow.Author.Tests.{ltb-true, lt-ltb, le-leb, ne-eqb}
 use Rattle.base.specs.Refusals.{done, unless, firstOf, refusedCell, refusedHost, refusedFull}
 use Rattle.base.proofs.Tests.{both, first-next, first-only}
@@ -23,7 +23,9 @@ use Rattle.host.specs.declared.Sent.{Sent}
 use Rattle.host.specs.declared.Stepped.{Stepped}
 use Rattle.host.specs.Steps.{startRefusal}
 use Rattle.host.proofs.Limits.{SettingsIn, settings-in}
-use Rattle.places.specs.Places.{placesOk, clocksOk}
+use Rattle.host.specs.declared.Host.{Host}
+use Rattle.places.specs.declared.Advanced.{Advanced}
+use Rattle.places.specs.Places.{placesOk, clocksOk, advancesRefusal, advancedHosts, advancesOf}
 use Rattle.slots.specs.declared.Slot.{Slot}
 use Rattle.slots.specs.declared.Content.{Content}
 use Rattle.slots.specs.declared.Placed.{Placed}
@@ -31,7 +33,7 @@ use Rattle.slots.specs.Slots.{slotCount, emptySlot, isEmpty, slotsOk, slotRefus
 use Rattle.slots.proofs.Laws.{Sendable, slots-in, holds-at}
 use Rattle.cell.specs.declared.Cell.{Cell}
 use Rattle.cell.specs.Limits.{hostAt, contentAt, cellOk}
-use Rattle.cell.specs.Events.{answered, answerWith, hostRefusal, messagesIn, stepFull, sentTo, stepped, startStep, startAtRefusal, startAtOf, targetOf, deliverStep, deliverFull, deliverRefusal, delivered, deliverOf, repeatRefusal, repeated, repeatOf}
+use Rattle.cell.specs.Events.{answered, answerWith, withHosts, withSlots, advanceAllRefusal, advancedAll, advanceAllOf, hostRefusal, messagesIn, stepFull, sentTo, stepped, startStep, startAtRefusal, startAtOf, targetOf, deliverStep, deliverFull, deliverRefusal, delivered, deliverOf, repeatRefusal, repeated, repeatOf}
 use Rattle.cell.specs.Parts.{carriedOf, deliveredOf, repeatedOf}
 
 -- ---- what the limits tell with no word on lengths
@@ -99,40 +101,55 @@ by-slots : (b : Bool) (after before : List Slot) → placedBy b after before .an
 by-slots true after before e = refl
 by-slots false after before e = absurd (omega arith)
 
+by-refused : (b : Bool) (after before : List Slot) → (placedBy b after before .answer ≡ done → ⊥) → placedBy b after before .slots ≡ before
+by-refused true after before e = absurd (e refl)
+by-refused false after before e = refl
+
 -- a step carried into the cell: it sends nothing, or a message that is refused by 13 or placed
-module _ (c : Cell) (from h : ℕ) (step : Stepped) where
-  abbrev ready : List Slot
-  ready = freed (c .slots) from
+module _ (c : Cell) (h : ℕ) (step : Stepped) (i : ℕ) (held : Slot) where
+  abbrev fits : Bool
+  fits = leb (size (step .receivers)) (empties (c .slots))
+
+  abbrev filled : Message → List Slot
+  filled m = placedTo (c .settings .n) (c .slots) m (step .receivers)
 
   abbrev tried : Message → Placed
-  tried m = placeOf (c .settings .n) ready m (step .receivers)
+  tried m = placeOf (c .settings .n) (c .slots) m (step .receivers)
 
   abbrev after : List Slot → Cell
   after ss = record { settings = c .settings; hosts = set (c .hosts) h (step .host); slots = ss }
 
-  pub carried-nothing : step .sent ≡ Sent.Nothing → carriedOf c from h step ≡ answered done (after ready)
+  pub carried-nothing : step .sent ≡ Sent.Nothing → carriedOf c h step i held ≡ answered done (after (c .slots))
   unfolding carriedOf messagesIn stepped sentTo
-  carried-nothing e = rw (e, le-leb 0 (empties ready) (omega arith))
+  carried-nothing e = rw (e, le-leb 0 (empties (c .slots)) (omega arith))
 
-  tried-full : (m : Message) → step .sent ≡ Sent.One m → stepFull ready step ≡ tried m .answer
+  tried-full : (m : Message) → step .sent ≡ Sent.One m → stepFull (c .slots) step ≡ tried m .answer
   unfolding messagesIn placeOf
-  tried-full m e = rw e (sym (by-answer (leb (size (step .receivers)) (empties ready)) (placedTo (c .settings .n) ready m (step .receivers)) ready))
+  tried-full m e = rw e (sym (by-answer fits (filled m) (c .slots)))
 
-  tried-slots : (m : Message) → step .sent ≡ Sent.One m → tried m .answer ≡ done → stepped c h ready step ≡ after (tried m .slots)
+  tried-slots : (m : Message) → step .sent ≡ Sent.One m → tried m .answer ≡ done → stepped c h (c .slots) step ≡ after (tried m .slots)
   unfolding stepped sentTo placeOf
-  tried-slots m e r = rw e (ap after (sym (by-slots (leb (size (step .receivers)) (empties ready)) (placedTo (c .settings .n) ready m (step .receivers)) ready r)))
+  tried-slots m e r = rw e (ap after (sym (by-slots fits (filled m) (c .slots) r)))
 
-  pub carried-refused : (m : Message) → step .sent ≡ Sent.One m → (tried m .answer ≡ done → ⊥) → carriedOf c from h step ≡ answered (tried m .answer) c
+  tried-same : (m : Message) → (tried m .answer ≡ done → ⊥) → tried m .slots ≡ c .slots
+  unfolding placeOf
+  tried-same m r = by-refused fits (filled m) (c .slots) r
+
+  pub carried-refused : (m : Message) → step .sent ≡ Sent.One m → (tried m .answer ≡ done → ⊥)
+      → carriedOf c h step i held ≡ answered (tried m .answer) (withSlots c (set (tried m .slots) i held))
   unfolding carriedOf
-  carried-refused m e r = ap (λ (k : ℕ). answerWith k c (stepped c h ready step)) (tried-full m e) ∙ rw (ne-eqb (tried m .answer) done r)
+  carried-refused m e r =
+      ap (λ (k : ℕ). answerWith k (withSlots c (set (c .slots) i held)) (stepped c h (c .slots) step)) (tried-full m e)
+      ∙ rw (ne-eqb (tried m .answer) done r, tried-same m r)
 
-  pub carried-placed : (m : Message) → step .sent ≡ Sent.One m → tried m .answer ≡ done → carriedOf c from h step ≡ answered done (after (tried m .slots))
+  pub carried-placed : (m : Message) → step .sent ≡ Sent.One m → tried m .answer ≡ done → carriedOf c h step i held ≡ answered done (after (tried m .slots))
   unfolding carriedOf
-  carried-placed m e r = ap (λ (k : ℕ). answerWith k c (stepped c h ready step)) (tried-full m e ∙ r) ∙ ap (answered done) (tried-slots m e r)
+  carried-placed m e r =
+      ap (λ (k : ℕ). answerWith k (withSlots c (set (c .slots) i held)) (stepped c h (c .slots) step)) (tried-full m e ∙ r) ∙ ap (answered done) (tried-slots m e r)
 
--- where no slot has that number, none is freed
-pub none-freed : (ss : List Slot) (i : ℕ) → length ss ≤ i → freed ss i ≡ ss
-none-freed ss i b = set-out ss i emptySlot b
+-- a host or a slot that is put back
+pub put-back : {A : Type 0} (xs : List A) (i : ℕ) (x d : A) → set (set xs i x) i (getD xs i d) ≡ xs
+put-back xs i x d = set-set xs i x (getD xs i d) ∙ set-getD xs i d
 
 -- a message placed to its own target alone
 own-target : (m : Message) → messageTo m (targetOf m) ≡ m
@@ -145,14 +162,15 @@ place-own n ss m f =
     let b = target-in n m f in
     rw (size-single (targetOf m), members-single n (targetOf m) b, own-target m)
 
-pub own-full : (n : ℕ) (ss : List Slot) (m : Message) → faultOf n (numbersOf m) ≡ done → placeOf n ss m (single (targetOf m)) .answer ≡ fullRefusal 1 ss
-own-full n ss m f = ap (λ (x : Placed). x .answer) (place-own n ss m f) ∙ by-answer (leb 1 (empties ss)) (placed ss m) ss
-
-pub own-slots : (n : ℕ) (ss : List Slot) (m : Message) → faultOf n (numbersOf m) ≡ done → placeOf n ss m (single (targetOf m)) .answer ≡ done
-    → placeOf n ss m (single (targetOf m)) .slots ≡ placed ss m
-own-slots n ss m f e =
-    let q = place-own n ss m f in
-    ap (λ (x : Placed). x .slots) q ∙ by-slots (leb 1 (empties ss)) (placed ss m) ss (sym (ap (λ (x : Placed). x .answer) q) ∙ e)
+pub own-placed : (c : Cell) (m : Message) → faultOf (c .settings .n) (numbersOf m) ≡ done
+    → answered (placeOf (c .settings .n) (c .slots) m (single (targetOf m)) .answer) (withSlots c (placeOf (c .settings .n) (c .slots) m (single (targetOf m)) .slots)) ≡ repeatedOf c m
+unfolding repeatedOf
+own-placed c m f = ap (λ (x : Placed). answered (x .answer) (withSlots c (x .slots))) (place-own (c .settings .n) (c .slots) m f) ∙ go (leb 1 (empties (c .slots)))
+  where
+    go : (b : Bool) → answered (placedBy b (placed (c .slots) m) (c .slots) .answer) (withSlots c (placedBy b (placed (c .slots) m) (c .slots) .slots))
+        ≡ answerWith (unless b refusedFull) c (withSlots c (placed (c .slots) m))
+    go true = refl
+    go false = refl
 
 -- ---- events, their first tests passed: the refusals that are left
 
@@ -171,12 +189,12 @@ start-left : (c : Cell) (h d : ℕ) → cellOk c ≡ true → h < c .settings .n
 unfolding startAtRefusal
 start-left c h d e b r = cell-passed c _ e ∙ host-passed c h _ b ∙ first-next (startRefusal (c .settings) (hostAt c h) d) _ r ∙ first-only (stepFull (c .slots) (startStep c h d))
 
-pub start-carried : (c : Cell) (h d : ℕ) → length (c .slots) ≡ slotCount → cellOk c ≡ true → h < c .settings .n → startRefusal (c .settings) (hostAt c h) d ≡ done
-    → startAtOf c h d ≡ carriedOf c slotCount h (startStep c h d)
+pub start-carried : (c : Cell) (h d : ℕ) → cellOk c ≡ true → h < c .settings .n → startRefusal (c .settings) (hostAt c h) d ≡ done
+    → startAtOf c h d ≡ carriedOf c h (startStep c h d) 0 (getD (c .slots) 0 emptySlot)
 unfolding startAtOf carriedOf
-start-carried c h d l e b r =
+start-carried c h d e b r =
     ap (λ (k : ℕ). answerWith k c (stepped c h (c .slots) (startStep c h d))) (start-left c h d e b r)
-    ∙ ap (λ (ss : List Slot). answerWith (stepFull ss (startStep c h d)) c (stepped c h ss (startStep c h d))) (sym (none-freed (c .slots) slotCount (omega (arith, l))))
+    ∙ ap (λ (ss : List Slot). answerWith (stepFull (c .slots) (startStep c h d)) (withSlots c ss) (stepped c h (c .slots) (startStep c h d))) (sym (set-getD (c .slots) 0 emptySlot))
 
 deliver-left : (c : Cell) (i : ℕ) (m : Message) → cellOk c ≡ true → i < slotCount → contentAt c i ≡ Content.One m
     → deliverRefusal c i ≡ stepFull (freed (c .slots) i) (deliverStep c m)
@@ -186,10 +204,16 @@ deliver-left c i m e b f =
     ∙ first-only (stepFull (freed (c .slots) i) (deliverStep c m))
 
 pub deliver-carried : (c : Cell) (i : ℕ) (m : Message) → cellOk c ≡ true → i < slotCount → contentAt c i ≡ Content.One m → deliverOf c i ≡ deliveredOf c i m
-unfolding deliverOf carriedOf delivered
+unfolding deliverOf deliveredOf delivered
 deliver-carried c i m e b f =
     ap (λ (k : ℕ). answerWith k c (delivered c i (contentAt c i))) (deliver-left c i m e b f)
     ∙ ap (λ (t : Content). answerWith (stepFull (freed (c .slots) i) (deliverStep c m)) c (delivered c i t)) f
+
+-- the step of a message's target, in the cell with the message's slot freed
+pub freed-carried : (c : Cell) (i : ℕ) (m : Message)
+    → carriedOf (withSlots c (freed (c .slots) i)) (targetOf m) (deliverStep c m) i (getD (c .slots) i emptySlot) ≡ deliveredOf c i m
+unfolding carriedOf deliveredOf stepped
+freed-carried c i m = rw (put-back (c .slots) i emptySlot emptySlot)
 
 repeat-left : (c : Cell) (i : ℕ) (m : Message) → cellOk c ≡ true → i < slotCount → contentAt c i ≡ Content.One m → repeatRefusal c i ≡ fullRefusal 1 (c .slots)
 unfolding repeatRefusal
@@ -201,3 +225,26 @@ unfolding repeatOf repeatedOf repeated
 repeat-placed c i m e b f =
     ap (λ (k : ℕ). answerWith k c (repeated c (contentAt c i))) (repeat-left c i m e b f)
     ∙ ap (λ (t : Content). answerWith (fullRefusal 1 (c .slots)) c (repeated c t)) f
+
+advance-left : (c : Cell) (d : ℕ) → cellOk c ≡ true → advanceAllRefusal c d ≡ advancesRefusal (c .settings) (c .hosts) d
+unfolding advanceAllRefusal
+advance-left c d e = cell-passed c _ e ∙ first-only (advancesRefusal (c .settings) (c .hosts) d)
+
+-- an advance of all gives the hosts and the answer of their advance
+pub advance-hosts : (c : Cell) (d : ℕ) → cellOk c ≡ true
+    → answered (advancesOf (c .settings) (c .hosts) d .answer) (withHosts c (advancesOf (c .settings) (c .hosts) d .hosts)) ≡ advanceAllOf c d
+unfolding advanceAllOf advancedAll advancesOf
+advance-hosts c d e = go (eqb refusal done) ∙ ap (λ (k : ℕ). answerWith k c (withHosts c moved)) (sym (advance-left c d e))
+  where
+    refusal : ℕ
+    refusal = advancesRefusal (c .settings) (c .hosts) d
+
+    moved : List Host
+    moved = advancedHosts (c .settings) (c .hosts) d
+
+    by : Bool → Advanced
+    by b = cond b (record { answer = done; hosts = moved }) (record { answer = refusal; hosts = c .hosts })
+
+    go : (b : Bool) → answered (by b .answer) (withHosts c (by b .hosts)) ≡ cond b (answered done (withHosts c moved)) (answered refusal c)
+    go true = refl
+    go false = refl

@@ -1,20 +1,22 @@
 -- Parts of the events, said in the way in which the code's own functions are cut. No claim about cells rests on them: proofs/Methods ties them
 -- to the definitions of the events. Assumes nothing.
 use Prim.Native.Nat.{ℕ}
+use lib.ListN.{set}
 use Rattle.message.specs.declared.Message.{Message}
 use Rattle.host.specs.declared.Stepped.{Stepped}
+use Rattle.slots.specs.declared.Slot.{Slot}
 use Rattle.slots.specs.Slots.{fullRefusal, placed, freed}
 use Rattle.cell.specs.declared.Cell.{Cell}
 use Rattle.cell.specs.declared.Answered.{Answered}
 use Rattle.cell.specs.Events.{stepFull, stepped, answerWith, withSlots, targetOf, deliverStep}
 
--- a host's step carried into the cell, with one slot freed: none where it is no slot's number
-unfoldable pub carriedOf : Cell → ℕ → ℕ → Stepped → Answered
-carriedOf c from h step = answerWith (stepFull (freed (c .slots) from) step) c (stepped c h (freed (c .slots) from) step)
+-- a host's step carried into the cell; where 13 refuses it, one slot holds this in the cell that is handed back
+unfoldable pub carriedOf : Cell → ℕ → Stepped → ℕ → Slot → Answered
+carriedOf c h step i held = answerWith (stepFull (c .slots) step) (withSlots c (set (c .slots) i held)) (stepped c h (c .slots) step)
 
 -- a message that is delivered where nothing but 13 can refuse it
-abbrev pub deliveredOf : Cell → ℕ → Message → Answered
-deliveredOf c i m = carriedOf c i (targetOf m) (deliverStep c m)
+unfoldable pub deliveredOf : Cell → ℕ → Message → Answered
+deliveredOf c i m = answerWith (stepFull (freed (c .slots) i) (deliverStep c m)) c (stepped c (targetOf m) (freed (c .slots) i) (deliverStep c m))
 
 -- a message that is repeated where nothing but 13 can refuse it
 unfoldable pub repeatedOf : Cell → Message → Answered

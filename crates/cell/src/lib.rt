@@ -127,33 +127,31 @@ impl Cell {
             }
             i += 1;
         }
-        high - low <= s.spread as u64
+        places::spread_ok(s, low, high)
     }
 
-    // A host is replaced, a slot freed (96: none) and what the host sends is placed; where that is refused, nothing is changed.
-    fn carried(self, from: usize, at: usize, step: Stepped) -> Answered
-        requires { ⌜ (at < 9) × (self .settings .n ≤ 16) ⌝ }
-        ensures { λ r. ⌜ r ≡ carriedOf self from at step ⌝ }
+    // A host is replaced, and what it sends is placed. Where placing is refused, the host is put back, and slot i holds what is handed in for that.
+    fn carried(self, host: usize, step: Stepped, i: usize, held: Slot) -> Answered
+        requires { ⌜ (host < 9) × ((i < 96) × (self .settings .n ≤ 16)) ⌝ }
+        ensures { λ r. ⌜ r ≡ carriedOf self host step i held ⌝ }
     {
         let sent = step.sent;
-        let host = step.host;
+        let after = step.host;
         let mut c = self;
-        c.hosts[at] = host;
-        if from < SLOTS {
-            c.slots[from] = Slot {
-                content: Content::Empty,
-            };
-        }
+        let before = c.hosts[host];
+        c.hosts[host] = after;
         match sent {
             Sent::Nothing => answered_with(DONE, c),
             Sent::One(m) => {
                 let slots = c.slots;
                 let placed = slots::place(slots, c.settings.n, m, step.receivers);
-                if placed.answer != DONE {
-                    return answered_with(placed.answer, self);
-                }
                 let under_way = placed.slots;
                 c.slots = under_way;
+                if placed.answer != DONE {
+                    c.hosts[host] = before;
+                    c.slots[i] = held;
+                    return answered_with(placed.answer, c);
+                }
                 answered_with(DONE, c)
             }
         }
@@ -167,13 +165,10 @@ impl Cell {
         }
         let hosts = self.hosts;
         let after = places::advance_hosts(self.settings, hosts, d);
-        if after.answer != DONE {
-            return answered_with(after.answer, self);
-        }
         let moved = after.hosts;
         let mut c = self;
         c.hosts = moved;
-        answered_with(DONE, c)
+        answered_with(after.answer, c)
     }
 
     pub fn advance_one(self, host: u8, d: u64) -> Answered
@@ -196,7 +191,8 @@ impl Cell {
         c.hosts[host as usize] = moved;
         let hosts = c.hosts;
         if !places::clocks_ok(s, hosts) {
-            return answered_with(REFUSED_SPREAD, self);
+            c.hosts[host as usize] = h;
+            return answered_with(REFUSED_SPREAD, c);
         }
         answered_with(DONE, c)
     }
@@ -216,7 +212,8 @@ impl Cell {
         if step.answer != DONE {
             return answered_with(step.answer, self);
         }
-        self.carried(SLOTS, host as usize, step)
+        let first = self.slots[0];
+        self.carried(host as usize, step, 0, first)
     }
 
     // The message of slot i is delivered: its slot counts as empty for what its receiver sends.
@@ -227,7 +224,12 @@ impl Cell {
         let target = message::numbers_of(m).target as usize;
         let h = self.hosts[target];
         let step = h.receive(self.settings, m);
-        self.carried(i, target, step)
+        let mut c = self;
+        let held = c.slots[i];
+        c.slots[i] = Slot {
+            content: Content::Empty,
+        };
+        c.carried(target, step, i, held)
     }
 
     pub fn deliver(self, slot: u8) -> Answered
@@ -278,13 +280,10 @@ impl Cell {
         let target = message::numbers_of(m).target;
         let slots = self.slots;
         let placed = slots::place(slots, self.settings.n, m, quorum::single_of(target));
-        if placed.answer != DONE {
-            return answered_with(placed.answer, self);
-        }
         let under_way = placed.slots;
         let mut c = self;
         c.slots = under_way;
-        answered_with(DONE, c)
+        answered_with(placed.answer, c)
     }
 
     pub fn repeat(self, slot: u8) -> Answered

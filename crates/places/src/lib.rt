@@ -2,7 +2,8 @@
 // advance of all leave there.
 ghost use mathlib.Core.Path.{_≡_};
 ghost use mathlib.Core.Bool.{true};
-ghost use Prim.Native.Nat.{_<_, _≤_, max, min};
+ghost use Prim.Native.Nat.{_<_, _≤_, _-_, max, min};
+ghost use lib.Dec.{leb};
 ghost use Rattle.message.specs.Message.{lastTick};
 ghost use Rattle.state.specs.Limits.{settingsOk};
 ghost use Rattle.places.specs.Places.{noPromise, noLease, noTick, noRound, noHolder, isBlankState, isBlank, placeOk, clocksOk, newHost, newHosts, advancesOf};
@@ -101,6 +102,7 @@ pub fn place_ok(s: Settings, i: usize, h: Host) -> bool
     is_blank(h)
 }
 
+// The later of two clocks.
 pub fn later_of(a: u64, b: u64) -> u64
     ensures { λ r. ⌜ r ≡ max a b ⌝ }
 {
@@ -110,6 +112,7 @@ pub fn later_of(a: u64, b: u64) -> u64
     a
 }
 
+// The earlier of two clocks.
 pub fn earlier_of(a: u64, b: u64) -> u64
     ensures { λ r. ⌜ r ≡ min a b ⌝ }
 {
@@ -117,6 +120,14 @@ pub fn earlier_of(a: u64, b: u64) -> u64
         return b;
     }
     a
+}
+
+// Whether the latest clock is at most S past the earliest.
+pub fn spread_ok(s: Settings, low: u64, high: u64) -> bool
+    requires { ⌜ low ≤ high ⌝ }
+    ensures { λ r. ⌜ r ≡ leb (high - low) (s .spread) ⌝ }
+{
+    high - low <= s.spread as u64
 }
 
 // Whether the clocks of the n hosts are at most S apart: the largest and the smallest are found in one walk.
@@ -135,7 +146,7 @@ pub fn clocks_ok(s: Settings, hosts: [Host; 9]) -> bool
         low = earlier_of(low, h.clock);
         i += 1;
     }
-    high - low <= s.spread as u64
+    spread_ok(s, low, high)
 }
 
 // A host as opening sets it: one that waits as after a restart, or the blank one at n or above.

@@ -1,5 +1,5 @@
 use borrow.Author.Needs.{needs}
-use mathlib.Core.Path.{_≡_, refl}
+use mathlib.Core.Path.{_≡_, refl, _∙_}
 use Prim.Native.Nat.{_≤_, _-_}
 use native.Mathlib.Omega.{arith}
 use lib.ListN.{length}
@@ -54,14 +54,11 @@ loop-again c =
       rw (c .earlier-of .ensures, c .before .later-of .ensures) (span-next (a .t2) (a .s .n) (l .i) (l .low) (l .high) (c .before .before .before .loop-test .taken) (l .inv .5)),
     )
 
-sub-result : tie.Need-sub-result Inv-loop μ-loop
-sub-result c =
+spread-ok-requires : tie.Need-spread-ok-requires Inv-loop μ-loop
+spread-ok-requires c κs =
     let a = c .before .before .before .before .args in
     let l = c .before .loop in
     span-order (a .t2) (a .s .n) (l .i) (l .low) (l .high) (l .inv .3) (l .inv .5)
-
-cast-result : tie.Need-cast-result Inv-loop μ-loop
-cast-result c = search needs
 
 returns : tie.Need-returns Inv-loop μ-loop
 returns c =
@@ -69,7 +66,7 @@ returns c =
     let l = c .before .before .loop in
     let e : l .i ≡ a .s .n = omega (arith, l .inv .4, c .before .loop-test .left) in
     let few : a .s .n ≤ length (a .t2) = omega (arith, l .inv .0, l .inv .2) in
-    span-clocks (a .s) (a .t2) (l .low) (l .high) (c .before .before .before .before .before .pre .0) few (rw e at (l .inv .5))
+    c .spread-ok .ensures ∙ span-clocks (a .s) (a .t2) (l .low) (l .high) (c .before .before .before .before .before .pre .0) few (rw e at (l .inv .5))
 
 pub clocks-ok-spec : {M : Type 1} → statement M
 clocks-ok-spec =
@@ -87,6 +84,5 @@ clocks-ok-spec =
     add-i
     loop-less
     loop-again
-    sub-result
-    cast-result
+    spread-ok-requires
     returns)

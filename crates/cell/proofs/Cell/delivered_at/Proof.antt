@@ -1,4 +1,4 @@
-use Rattle.cell.proofs.Methods.{n-of, target-in}
+use Rattle.cell.proofs.Methods.{n-of, target-in, freed-carried}
 use Rattle.cell.proofs.Limits.{Sized, cell-in}
 use Rattle.cell.specs.Events.{targetOf}
 use Rattle.cell.specs.Limits.{hostAt}
@@ -11,9 +11,12 @@ use borrow.Author.Needs.{needs}
 use Rattle.cell.proofs.Cell.delivered_at.Statement.{statement}
 use Rattle.cell.proofs.Cell.delivered_at.Tie as tie
 
+-- LEMMA-BEGIN
 -- the places and slots of the cell that was handed in
 sized : (c : tie.Start) → Sized (c .args .t1)
 sized c = record { hosts = search (needs, length-mapped); slots = search (needs, length-mapped) }
+
+-- LEMMA-END
 
 numbers-of-requires : tie.Need-numbers-of-requires
 numbers-of-requires c κs = search needs
@@ -25,7 +28,7 @@ mul-h : tie.Need-mul-h
 mul-h c = search needs
 
 element-copy-out-h : tie.Need-element-copy-out-h
-element-copy-out-h c =
+element-copy-out-h c = 
     let i = n-of (c .before .before .args .t1) (c .before .before .pre .0) in
     let t = target-in (c .before .before .args .t1 .settings .n) (c .before .before .args .m) (c .before .before .pre .1 .1) in
     omega (arith, i .few, t, ap (λ (f : Numbers). f .target) (c .before .numbers-of .ensures))
@@ -33,20 +36,33 @@ element-copy-out-h c =
 receive-requires : tie.Need-receive-requires
 receive-requires c κs = search needs
 
+mul-held : tie.Need-mul-held
+mul-held c = search needs
+
+element-copy-out-held : tie.Need-element-copy-out-held
+element-copy-out-held c = search needs
+
+mul-t11 : tie.Need-mul-t11
+mul-t11 c = search needs
+
+element-set-from-c : tie.Need-element-set-from-c
+element-set-from-c c = search needs
+
 carried-requires : tie.Need-carried-requires
-carried-requires c κs =
-    let i = n-of (c .before .before .before .before .before .args .t1) (c .before .before .before .before .before .pre .0) in
-    let t = target-in (c .before .before .before .before .before .args .t1 .settings .n) (c .before .before .before .before .before .args .m) (c .before .before .before .before .before .pre .1 .1) in
-    (omega (arith, i .few, t, ap (λ (f : Numbers). f .target) (c .before .before .before .before .numbers-of .ensures)), omega (arith, i .few))
+carried-requires c κs = 
+    let i = n-of (c .before .before .before .before .before .before .args .t1) (c .before .before .before .before .before .before .pre .0) in
+    let t = target-in (c .before .before .before .before .before .before .args .t1 .settings .n) (c .before .before .before .before .before .before .args .m) (c .before .before .before .before .before .before .pre .1 .1) in
+    (omega (arith, i .few, t, ap (λ (f : Numbers). f .target) (c .before .before .before .before .before .numbers-of .ensures)), (c .before .before .before .before .before .before .pre .1 .0, omega (arith, i .few)))
 
 returns : tie.Need-returns
-returns c =
-    let a = c .before .before .before .before .before .before .args in
-    let p = c .before .before .before .before .before .before .pre in
-    let i = cell-in (a .t1) (sized (c .before .before .before .before .before .before)) (p .0) in
+returns c = 
+    let a = c .before .before .before .before .before .before .before .args in
+    let p = c .before .before .before .before .before .before .before .pre in
+    let i = cell-in (a .t1) (sized (c .before .before .before .before .before .before .before)) (p .0) in
     let b = target-in (a .t1 .settings .n) (a .m) (p .1 .1) in
     let t = targetOf (a .m) in
-    rw (c .carried .ensures, c .before .receive .ensures, c .before .before .before .before .before .numbers-of .ensures, message-done (a .t1 .settings) (hostAt (a .t1) t) (a .m) (message-passed (a .t1 .settings) (hostAt (a .t1) t) (a .m) (i .host t b) (p .1 .1) (sym (i .number t b))))
+    rw (c .carried .ensures, c .before .before .receive .ensures, c .before .before .before .before .before .before .numbers-of .ensures, message-done (a .t1 .settings) (hostAt (a .t1) t) (a .m) (message-passed (a .t1 .settings) (hostAt (a .t1) t) (a .m) (i .host t b) (p .1 .1) (sym (i .number t b))))
+    (freed-carried (a .t1) (a .i) (a .m))
 
 pub delivered-at-spec : {M : Type 1} → statement M
 delivered-at-spec =
@@ -57,5 +73,9 @@ delivered-at-spec =
     mul-h
     element-copy-out-h
     receive-requires
+    mul-held
+    element-copy-out-held
+    mul-t11
+    element-set-from-c
     carried-requires
     returns)

@@ -2,24 +2,19 @@ use Rattle.cell.proofs.Methods.{n-of, start-carried}
 use Rattle.cell.specs.Parts.{carriedOf}
 use Rattle.cell.specs.Events.{startAtRefusal, startAtOf}
 use Rattle.cell.specs.Limits.{hostAt, cellOk}
-use Rattle.slots.specs.Slots.{slotCount}
+use Rattle.slots.specs.Slots.{emptySlot}
 use Rattle.host.proofs.Kept.{answer-start, start-done}
 use Rattle.host.specs.Steps.{startRefusal}
 use Rattle.host.specs.declared.Stepped.{Stepped}
-use Rattle.base.proofs.Lists.{length-mapped}
 use Rattle.base.specs.Refusals.{done, firstOf}
 use borrow.Author.Tests.{not-true, not-false, ne-eqb, lt-ltb, le-ltb}
-use lib.ListN.{length}
+use lib.ListN.{getD}
 use native.Mathlib.Omega.{arith}
 use mathlib.Core.Bool.{true}
 use mathlib.Core.Path.{_≡_, sym, ap, _∙_}
 use borrow.Author.Needs.{needs}
 use Rattle.cell.proofs.Cell.start.Statement.{statement}
 use Rattle.cell.proofs.Cell.start.Tie as tie
-
--- there are 96 slots
-sized : (c : tie.Start) → length (c .args .t1 .slots) ≡ 96
-sized c = search (needs, length-mapped)
 
 within-limits-requires : tie.Need-within-limits-requires
 within-limits-requires c κs = search needs
@@ -42,7 +37,7 @@ mul-h : tie.Need-mul-h
 mul-h c = search needs
 
 element-copy-out-h : tie.Need-element-copy-out-h
-element-copy-out-h c =
+element-copy-out-h c = 
     let i = n-of (c .before .before .before .before .before .args .t1) (sym (c .before .before .before .before .within-limits .ensures) ∙ not-false (c .before .before .before .before .within-limits .result) (c .before .before .before .if1 .left)) in
     omega (arith, i .few, c .if2 .left)
 
@@ -54,7 +49,7 @@ answered-with-requires-3 c κs = search needs
 
 returns-3 : tie.Need-returns-3
 unfolding startAtOf startAtRefusal firstOf
-returns-3 c =
+returns-3 c = 
     let a = c .before .before .before .before .before .before .before .before .before .before .args in
     let s = a .t1 .settings in
     let h = hostAt (a .t1) (a .host) in
@@ -62,21 +57,24 @@ returns-3 c =
     let e : startRefusal s h (a .duration) ≡ p .result .answer = sym (ap (λ (x : Stepped). x .answer) (p .ensures) ∙ answer-start s h (a .duration)) in
     rw (c .answered-with3 .ensures, ← c .before .before .before .before .before .before .before .before .before .within-limits .ensures, not-false (c .before .before .before .before .before .before .before .before .before .within-limits .result) (c .before .before .before .before .before .before .before .before .if1 .left), lt-ltb _ _ (c .before .before .before .before .before .if2 .left), e, ne-eqb _ _ (c .before .if3 .taken), ne-eqb _ _ (c .before .if3 .taken))
 
+element-copy-out-first : tie.Need-element-copy-out-first
+element-copy-out-first c = search needs
+
 carried-requires : tie.Need-carried-requires
-carried-requires c κs =
-    let i = n-of (c .before .before .before .before .before .before .before .before .before .args .t1) (sym (c .before .before .before .before .before .before .before .before .within-limits .ensures) ∙ not-false (c .before .before .before .before .before .before .before .before .within-limits .result) (c .before .before .before .before .before .before .before .if1 .left)) in
-    (omega (arith, i .few, c .before .before .before .before .if2 .left), omega (arith, i .few))
+carried-requires c κs = 
+    let i = n-of (c .before .before .before .before .before .before .before .before .before .before .args .t1) (sym (c .before .before .before .before .before .before .before .before .before .within-limits .ensures) ∙ not-false (c .before .before .before .before .before .before .before .before .before .within-limits .result) (c .before .before .before .before .before .before .before .before .if1 .left)) in
+    (omega (arith, i .few, c .before .before .before .before .before .if2 .left), (omega arith, omega (arith, i .few)))
 
 returns-4 : tie.Need-returns-4
-returns-4 c =
-    let a = c .before .before .before .before .before .before .before .before .before .before .args in
+returns-4 c = 
+    let a = c .before .before .before .before .before .before .before .before .before .before .before .args in
     let s = a .t1 .settings in
     let h = hostAt (a .t1) (a .host) in
-    let p = c .before .before .before .start in
-    let o : cellOk (a .t1) ≡ true = sym (c .before .before .before .before .before .before .before .before .before .within-limits .ensures) ∙ not-false (c .before .before .before .before .before .before .before .before .before .within-limits .result) (c .before .before .before .before .before .before .before .before .if1 .left) in
-    let e : startRefusal s h (a .duration) ≡ done = sym (ap (λ (x : Stepped). x .answer) (p .ensures) ∙ answer-start s h (a .duration)) ∙ c .before .if3 .left in
-    c .carried .ensures ∙ ap (carriedOf (a .t1) slotCount (a .host)) (p .ensures ∙ start-done s h (a .duration) e)
-    ∙ sym (start-carried (a .t1) (a .host) (a .duration) (sized (c .before .before .before .before .before .before .before .before .before .before)) o (c .before .before .before .before .before .if2 .left) e)
+    let p = c .before .before .before .before .start in
+    let o : cellOk (a .t1) ≡ true = sym (c .before .before .before .before .before .before .before .before .before .before .within-limits .ensures) ∙ not-false (c .before .before .before .before .before .before .before .before .before .before .within-limits .result) (c .before .before .before .before .before .before .before .before .before .if1 .left) in
+    let e : startRefusal s h (a .duration) ≡ done = sym (ap (λ (x : Stepped). x .answer) (p .ensures) ∙ answer-start s h (a .duration)) ∙ c .before .before .if3 .left in
+    c .carried .ensures ∙ ap (λ (x : Stepped). carriedOf (a .t1) (a .host) x 0 (getD (a .t1 .slots) 0 emptySlot)) (p .ensures ∙ start-done s h (a .duration) e)
+    ∙ sym (start-carried (a .t1) (a .host) (a .duration) o (c .before .before .before .before .before .before .if2 .left) e)
 
 pub start-spec : {M : Type 1} → statement M
 start-spec =
@@ -92,5 +90,6 @@ start-spec =
     start-requires
     answered-with-requires-3
     returns-3
+    element-copy-out-first
     carried-requires
     returns-4)
