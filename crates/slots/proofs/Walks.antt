@@ -84,15 +84,15 @@ placed-each-full ss m [] h = refl
 placed-each-full ss m (k ∷ hs) h = rw (set-out ss (lowest ss) (slotWith (messageTo m k)) h) (placed-each-full ss m hs h)
 
 -- a host that is a receiver has its turn, and one that is none has not
-module _ (ss : List Slot) (m : Message) (set h n : ℕ) (b : h < n) where
-  turn : (b : Bool) → isIn set h ≡ b → membersFrom set h (n - h) ≡ cond b (h ∷ membersFrom set (h + 1) (n - (h + 1))) (membersFrom set (h + 1) (n - (h + 1)))
-  turn t e = members-step set h n b ∙ ap (λ (x : Bool). cond x (h ∷ membersFrom set (h + 1) (n - (h + 1))) (membersFrom set (h + 1) (n - (h + 1)))) e
+module _ (ss : List Slot) (m : Message) (receivers h n : ℕ) (b : h < n) where
+  turn : (x : Bool) → isIn receivers h ≡ x → membersFrom receivers h (n - h) ≡ cond x (h ∷ membersFrom receivers (h + 1) (n - (h + 1))) (membersFrom receivers (h + 1) (n - (h + 1)))
+  turn x e = members-step receivers h n b ∙ ap (λ (y : Bool). cond y (h ∷ membersFrom receivers (h + 1) (n - (h + 1))) (membersFrom receivers (h + 1) (n - (h + 1)))) e
 
-  placed-turn : isIn set h ≡ true → placedEach ss m (membersFrom set h (n - h)) ≡ placedEach (placed ss (messageTo m h)) m (membersFrom set (h + 1) (n - (h + 1)))
+  placed-turn : isIn receivers h ≡ true → placedEach ss m (membersFrom receivers h (n - h)) ≡ placedEach (placed ss (messageTo m h)) m (membersFrom receivers (h + 1) (n - (h + 1)))
   unfolding placedEach
   placed-turn e = ap (placedEach ss m) (turn true e)
 
-  placed-skip : isIn set h ≡ false → placedEach ss m (membersFrom set h (n - h)) ≡ placedEach ss m (membersFrom set (h + 1) (n - (h + 1)))
+  placed-skip : isIn receivers h ≡ false → placedEach ss m (membersFrom receivers h (n - h)) ≡ placedEach ss m (membersFrom receivers (h + 1) (n - (h + 1)))
   placed-skip e = ap (placedEach ss m) (turn false e)
 
 -- ---- the walk that places: the hosts below h have had their turn, and the slots below i are taken

@@ -2,7 +2,7 @@
 // message to a set of receivers.
 ghost use mathlib.Core.Path.{_≡_};
 ghost use Prim.Native.Nat.{_≤_};
-ghost use Rattle.slots.specs.Slots.{isEmpty, contentOk, noMessages, empties, placeOf};
+ghost use Rattle.slots.specs.Slots.{isEmpty, contentOk, noMessages, placeOf};
 use base::DONE;
 use base::REFUSED_FULL;
 use message::Message;
@@ -55,39 +55,31 @@ pub fn no_messages() -> [Slot; 96]
     [s; 96]
 }
 
-// How many slots are empty.
-fn empties_in(slots: [Slot; 96]) -> usize
-    ensures { λ r. ⌜ r ≡ empties slots ⌝ }
-{
-    let mut i: usize = 0;
-    let mut count: usize = 0;
-    while i < SLOTS {
-        let s = slots[i];
-        let c = s.content;
-        if is_empty(c) {
-            count += 1;
-        }
-        i += 1;
-    }
-    count
-}
-
 // Places a message to each host of a set below n, in rising order: 13 where there are too few empty slots, and then none is placed.
 pub fn place(slots: [Slot; 96], n: u8, m: Message, receivers: u16) -> Placed
     requires { ⌜ n ≤ 16 ⌝ }
     ensures { λ r. ⌜ r ≡ placeOf n slots m receivers ⌝ }
 {
-    if empties_in(slots) < quorum::count(receivers) as usize {
-        return Placed {
-            answer: REFUSED_FULL,
-            slots,
-        };
-    }
     let f = message::numbers_of(m);
     let mut after = Placed {
         answer: DONE,
         slots,
     };
+    // How many slots are empty.
+    let mut k: usize = 0;
+    let mut count: usize = 0;
+    while k < SLOTS {
+        let s = after.slots[k];
+        let c = s.content;
+        if is_empty(c) {
+            count += 1;
+        }
+        k += 1;
+    }
+    if count < quorum::count(receivers) as usize {
+        after.answer = REFUSED_FULL;
+        return after;
+    }
     // One walk for all receivers: the slots below i are taken.
     let mut h: u8 = 0;
     let mut i: usize = 0;

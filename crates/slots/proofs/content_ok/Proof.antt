@@ -1,4 +1,3 @@
-use mathlib.Core.Path.{sym, _∙_}
 use Rattle.slots.specs.Slots.{contentOk}
 use borrow.Author.Needs.{needs}
 use Rattle.slots.proofs.content_ok.Statement.{statement}
