@@ -224,12 +224,13 @@ impl Cell {
         let target = message::numbers_of(m).target as usize;
         let h = self.hosts[target];
         let step = h.receive(self.settings, m);
-        let mut c = self;
-        let held = c.slots[i];
-        c.slots[i] = Slot {
+        let empty = Slot {
             content: Content::Empty,
         };
-        c.carried(target, step, i, held)
+        let mut freed = self;
+        let held = freed.slots[i];
+        freed.slots[i] = empty;
+        freed.carried(target, step, i, held)
     }
 
     pub fn deliver(self, slot: u8) -> Answered
@@ -265,10 +266,11 @@ impl Cell {
         if slots::is_empty(content) {
             return answered_with(REFUSED_SLOT, self);
         }
-        let mut c = self;
-        c.slots[i] = Slot {
+        let cleared = Slot {
             content: Content::Empty,
         };
+        let mut c = self;
+        c.slots[i] = cleared;
         answered_with(DONE, c)
     }
 

@@ -9,7 +9,7 @@ use lib.Dec.{leb, eqb}
 use lib.ListN.{length, getD, take}
 use lib.Seq.{getD-take, length-take-le}
 use borrow.Author.Tests.{leb-true, eqb-true, lt-ltb, le-ltb, le-leb, eq-eqb}
-use Rattle.base.proofs.Tests.{true-false, both}
+use Rattle.base.proofs.Tests.{true-false, both, and-true}
 use Rattle.rules.specs.declared.Promised.{Promised}
 use Rattle.rules.specs.declared.Accepted.{Accepted}
 use Rattle.rules.specs.declared.LastTick.{LastTick}
@@ -20,7 +20,6 @@ use Rattle.state.specs.declared.State.{State}
 use Rattle.host.specs.declared.Host.{Host}
 use Rattle.host.specs.Steps.{hostOk}
 use Rattle.state.specs.Blank.{blankState}
-use Rattle.base.proofs.Tests.{and-true}
 use Rattle.places.specs.Places.{blankHost, noPromise, noLease, noTick, noRound, noHolder, isBlankState, isBlank, placeOk, placesOk, isNear, allNear, clocksOk}
 
 -- ---- the blank host

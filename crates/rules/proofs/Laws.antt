@@ -1,5 +1,5 @@
--- Laws of the leaf rules: what the proof of agreement stands on, and what turns away a build whose rule is another. Assumes nothing.
-use mathlib.Core.Path.{_≡_, refl, sym, subst}
+-- Laws of the leaf rules: what a build whose rule is another does not have. The proof of agreement cites some of them. Assumes nothing.
+use mathlib.Core.Path.{_≡_, refl, sym, ap, subst}
 use mathlib.Core.Bool.{Bool, true, false, cond, not}
 use mathlib.Core.Logic.{_⊎_, inl, inr}
 use Prim.Native.Nat.{ℕ, _+_, _≤_, _<_}
@@ -43,14 +43,10 @@ above-one-way a b e = go (eqb (a .tick) (b .tick)) refl e
 
 -- ---- waiting, time and restart
 
--- the wait is T + S long
-pub wait-long : (clock longest spread : ℕ) → waitEnd clock longest spread ≡ clock + longest + spread
-unfolding waitEnd
-wait-long clock longest spread = refl
-
 -- the wait outlasts every lease proposed before it: its ballot's tick is at most S above the clock, and its end at most T later
 pub wait-outlasts : (clock longest spread tick end : ℕ) → tick ≤ clock + spread → end ≤ tick + longest → end ≤ waitEnd clock longest spread
-wait-outlasts clock longest spread tick end a b = omega (arith, wait-long clock longest spread)
+unfolding waitEnd
+wait-outlasts clock longest spread tick end a b = omega arith
 
 -- each constructor is one to one
 one-lease : {a b : Lease} → Accepted.One a ≡ Accepted.One b → a ≡ b
@@ -111,7 +107,7 @@ promised-once b = above-itself b
 
 -- a host that replied is not counted again
 pub counted-once : (replied h : ℕ) → counts (withHost replied h) h ≡ false
-counted-once replied h = rw (with-same replied h)
+counted-once replied h = ap (λ (b : ℕ). not (eqb b 1)) (with-same replied h)
 
 -- a reply whose lease has ended is discarded
 pub discarded : (clock : ℕ) (l : Lease) → l .end .0 ≤ clock → hasEnded clock (Accepted.One l) ≡ true

@@ -8,13 +8,12 @@ use Rattle.host.proofs.Kept.{advance-done, answer-advance}
 use Rattle.places.specs.Places.{blankHost, eachHost, advancesRefusal, advancesOf}
 use Rattle.places.proofs.Each.{each-next}
 use Rattle.places.proofs.Walks.{refusals-step, refusals-found, refusals-end}
-use lib.ListN.{getD}
+use lib.ListN.{getD, length, take, drop}
 use borrow.Author.Needs.{needs}
 use borrow.Author.Tests.{eq-eqb, ne-eqb}
 use mathlib.Core.Path.{_≡_, refl, sym, ap, _∙_}
 use Prim.Native.Nat.{_≤_, _-_}
 use native.Mathlib.Omega.{arith}
-use lib.ListN.{length, take, drop}
 use Rattle.places.proofs.advance_hosts.Statement.{statement}
 use Rattle.places.proofs.advance_hosts.Tie as tie
 

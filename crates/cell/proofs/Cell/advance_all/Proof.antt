@@ -27,7 +27,7 @@ answered-with-requires-2 : tie.Need-answered-with-requires-2
 answered-with-requires-2 c κs = search needs
 
 returns-2 : tie.Need-returns-2
-returns-2 c = 
+returns-2 c =
     let a = c .before .before .before .before .before .before .args in
     let o : cellOk (a .self) ≡ true = sym (c .before .before .before .before .before .within-limits .ensures) ∙ not-false (c .before .before .before .before .before .within-limits .result) (c .before .before .before .before .if1 .left) in
     c .answered-with2 .ensures ∙ ap (λ (x : Advanced). answered (x .answer) (withHosts (a .self) (x .hosts))) (c .before .before .advance-hosts .ensures) ∙ advance-hosts (a .self) (a .d) o

@@ -1,4 +1,5 @@
 use mathlib.Core.Path.{_≡_, sym, ap, _∙_}
+use Prim.Native.Nat.{_<_}
 use native.Mathlib.Omega.{arith}
 use borrow.Author.Tests.{not-true, not-false, ne-eqb, lt-ltb, le-ltb}
 use Rattle.base.specs.Refusals.{done, firstOf}
@@ -67,11 +68,9 @@ clocks-ok-requires c κs =
     let i = n-of (c .before .before .before .before .before .before .before .before .before .before .before .args .t1) (sym (c .before .before .before .before .before .before .before .before .before .before .within-limits .ensures) ∙ not-false (c .before .before .before .before .before .before .before .before .before .before .within-limits .result) (c .before .before .before .before .before .before .before .before .before .if1 .left)) in
     (i .some, i .few)
 
-mul-h-2 : tie.Need-mul-h-2
-mul-h-2 c = search needs
-
-element-set-from-h : tie.Need-element-set-from-h
-element-set-from-h c =
+-- the place of the host that is put back
+back : (c : tie.Then4) → c .before .before .before .before .before .before .before .before .before .before .before .before .before .args .host < 9
+back c =
     let i = n-of (c .before .before .before .before .before .before .before .before .before .before .before .before .before .args .t1) (sym (c .before .before .before .before .before .before .before .before .before .before .before .before .within-limits .ensures) ∙ not-false (c .before .before .before .before .before .before .before .before .before .before .before .before .within-limits .result) (c .before .before .before .before .before .before .before .before .before .before .before .if1 .left)) in
     omega (arith, i .few, c .before .before .before .before .before .before .before .before .if2 .left)
 
@@ -120,8 +119,8 @@ advance-one-spec =
     mul-moved
     element-set-from-moved
     clocks-ok-requires
-    mul-h-2
-    element-set-from-h
+    (λ c. search needs)
+    back
     answered-with-requires-4
     returns-4
     answered-with-requires-5

@@ -1,11 +1,10 @@
 use Rattle.cell.proofs.Methods.{carried-nothing, carried-refused, carried-placed, put-back}
 use Rattle.cell.specs.Events.{answered, withSlots}
-use Rattle.cell.specs.declared.Cell.{Cell}
 use Rattle.slots.specs.declared.Placed.{Placed}
 use Rattle.places.specs.Places.{blankHost}
 use Rattle.host.specs.declared.Host.{Host}
 use lib.ListN.{set}
-use mathlib.Core.Path.{_≡_, sym, ap, _∙_}
+use mathlib.Core.Path.{sym, ap, _∙_}
 use mathlib.Core.List.{List}
 use borrow.Author.Needs.{needs}
 use Rattle.cell.proofs.Cell.carried.Statement.{statement}
@@ -51,7 +50,7 @@ answered-with-requires-2 : tie.Need-answered-with-requires-2
 answered-with-requires-2 c κs = search needs
 
 returns : tie.Need-returns
-returns c = 
+returns c =
     let a = c .before .before .before .before .before .before .before .before .before .before .before .args in
     let p = c .before .before .before .before .place in
     c .answered-with2 .ensures
@@ -63,12 +62,12 @@ answered-with-requires-3 : tie.Need-answered-with-requires-3
 answered-with-requires-3 c κs = search needs
 
 returns-2 : tie.Need-returns-2
-returns-2 c = 
+returns-2 c =
     let a = c .before .before .before .before .before .args in
     c .answered-with .ensures ∙ sym (carried-nothing (a .self) (a .host) (a .step) (a .i) (a .held) (c .before .enum-told .given .1))
 
 returns-3 : tie.Need-returns-3
-returns-3 c = 
+returns-3 c =
     let a = c .before .before .before .before .before .before .before .before .before .before .before .args in
     let p = c .before .before .before .before .place in
     c .answered-with3 .ensures

@@ -11,12 +11,9 @@ use borrow.Author.Needs.{needs}
 use Rattle.cell.proofs.Cell.delivered_at.Statement.{statement}
 use Rattle.cell.proofs.Cell.delivered_at.Tie as tie
 
--- LEMMA-BEGIN
 -- the places and slots of the cell that was handed in
 sized : (c : tie.Start) → Sized (c .args .t1)
 sized c = record { hosts = search (needs, length-mapped); slots = search (needs, length-mapped) }
-
--- LEMMA-END
 
 numbers-of-requires : tie.Need-numbers-of-requires
 numbers-of-requires c κs = search needs
@@ -28,7 +25,7 @@ mul-h : tie.Need-mul-h
 mul-h c = search needs
 
 element-copy-out-h : tie.Need-element-copy-out-h
-element-copy-out-h c = 
+element-copy-out-h c =
     let i = n-of (c .before .before .args .t1) (c .before .before .pre .0) in
     let t = target-in (c .before .before .args .t1 .settings .n) (c .before .before .args .m) (c .before .before .pre .1 .1) in
     omega (arith, i .few, t, ap (λ (f : Numbers). f .target) (c .before .numbers-of .ensures))
@@ -42,20 +39,20 @@ mul-held c = search needs
 element-copy-out-held : tie.Need-element-copy-out-held
 element-copy-out-held c = search needs
 
-mul-t11 : tie.Need-mul-t11
-mul-t11 c = search needs
+mul-empty : tie.Need-mul-empty
+mul-empty c = search needs
 
-element-set-from-c : tie.Need-element-set-from-c
-element-set-from-c c = search needs
+element-set-from-empty : tie.Need-element-set-from-empty
+element-set-from-empty c = search needs
 
 carried-requires : tie.Need-carried-requires
-carried-requires c κs = 
+carried-requires c κs =
     let i = n-of (c .before .before .before .before .before .before .args .t1) (c .before .before .before .before .before .before .pre .0) in
     let t = target-in (c .before .before .before .before .before .before .args .t1 .settings .n) (c .before .before .before .before .before .before .args .m) (c .before .before .before .before .before .before .pre .1 .1) in
     (omega (arith, i .few, t, ap (λ (f : Numbers). f .target) (c .before .before .before .before .before .numbers-of .ensures)), (c .before .before .before .before .before .before .pre .1 .0, omega (arith, i .few)))
 
 returns : tie.Need-returns
-returns c = 
+returns c =
     let a = c .before .before .before .before .before .before .before .args in
     let p = c .before .before .before .before .before .before .before .pre in
     let i = cell-in (a .t1) (sized (c .before .before .before .before .before .before .before)) (p .0) in
@@ -75,7 +72,7 @@ delivered-at-spec =
     receive-requires
     mul-held
     element-copy-out-held
-    mul-t11
-    element-set-from-c
+    mul-empty
+    element-set-from-empty
     carried-requires
     returns)

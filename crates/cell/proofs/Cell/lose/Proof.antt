@@ -38,11 +38,11 @@ returns-3 : tie.Need-returns-3
 unfolding loseOf loseRefusal firstOf
 returns-3 c = rw (c .answered-with3 .ensures, ← c .before .before .before .before .before .before .within-limits .ensures, not-false (c .before .before .before .before .before .before .within-limits .result) (c .before .before .before .before .before .if1 .left), lt-ltb _ _ (c .before .before .before .before .if2 .left), ← c .before .before .is-empty .ensures, c .before .if3 .taken)
 
-mul-t13 : tie.Need-mul-t13
-mul-t13 c = search needs
+mul-cleared : tie.Need-mul-cleared
+mul-cleared c = search needs
 
-element-set-from-c : tie.Need-element-set-from-c
-element-set-from-c c = search needs
+element-set-from-cleared : tie.Need-element-set-from-cleared
+element-set-from-cleared c = search needs
 
 answered-with-requires-4 : tie.Need-answered-with-requires-4
 answered-with-requires-4 c κs = search needs
@@ -65,7 +65,7 @@ lose-spec =
     is-empty-requires
     answered-with-requires-3
     returns-3
-    mul-t13
-    element-set-from-c
+    mul-cleared
+    element-set-from-cleared
     answered-with-requires-4
     returns-4)

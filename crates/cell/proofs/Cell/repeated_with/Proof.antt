@@ -15,13 +15,13 @@ numbers-of-requires : tie.Need-numbers-of-requires
 numbers-of-requires c κs = search needs
 
 single-of-requires : tie.Need-single-of-requires
-single-of-requires c κs = 
+single-of-requires c κs =
     let i = settings-in (c .before .before .args .self .settings) (c .before .before .pre .0) in
     let t = target-in (c .before .before .args .self .settings .n) (c .before .before .args .m) (c .before .before .pre .1) in
     omega (arith, i .few, t, ap (λ (f : Numbers). f .target) (c .before .numbers-of .ensures))
 
 place-requires : tie.Need-place-requires
-place-requires c κs = 
+place-requires c κs =
     let i = settings-in (c .before .before .before .args .self .settings) (c .before .before .before .pre .0) in
     omega (arith, i .few)
 
@@ -29,7 +29,7 @@ answered-with-requires : tie.Need-answered-with-requires
 answered-with-requires c κs = search needs
 
 returns : tie.Need-returns
-returns c = 
+returns c =
     let a = c .before .before .before .before .before .before .args in
     let n = a .self .settings .n in
     let ss = a .self .slots in

@@ -37,7 +37,7 @@ mul-h : tie.Need-mul-h
 mul-h c = search needs
 
 element-copy-out-h : tie.Need-element-copy-out-h
-element-copy-out-h c = 
+element-copy-out-h c =
     let i = n-of (c .before .before .before .before .before .args .t1) (sym (c .before .before .before .before .within-limits .ensures) ∙ not-false (c .before .before .before .before .within-limits .result) (c .before .before .before .if1 .left)) in
     omega (arith, i .few, c .if2 .left)
 
@@ -49,7 +49,7 @@ answered-with-requires-3 c κs = search needs
 
 returns-3 : tie.Need-returns-3
 unfolding startAtOf startAtRefusal firstOf
-returns-3 c = 
+returns-3 c =
     let a = c .before .before .before .before .before .before .before .before .before .before .args in
     let s = a .t1 .settings in
     let h = hostAt (a .t1) (a .host) in
@@ -61,12 +61,12 @@ element-copy-out-first : tie.Need-element-copy-out-first
 element-copy-out-first c = search needs
 
 carried-requires : tie.Need-carried-requires
-carried-requires c κs = 
+carried-requires c κs =
     let i = n-of (c .before .before .before .before .before .before .before .before .before .before .args .t1) (sym (c .before .before .before .before .before .before .before .before .before .within-limits .ensures) ∙ not-false (c .before .before .before .before .before .before .before .before .before .within-limits .result) (c .before .before .before .before .before .before .before .before .if1 .left)) in
     (omega (arith, i .few, c .before .before .before .before .before .if2 .left), (omega arith, omega (arith, i .few)))
 
 returns-4 : tie.Need-returns-4
-returns-4 c = 
+returns-4 c =
     let a = c .before .before .before .before .before .before .before .before .before .before .before .args in
     let s = a .t1 .settings in
     let h = hostAt (a .t1) (a .host) in
