@@ -191,8 +191,7 @@ impl Cell {
         c.hosts[host as usize] = moved;
         let hosts = c.hosts;
         if !places::clocks_ok(s, hosts) {
-            c.hosts[host as usize] = h;
-            return answered_with(REFUSED_SPREAD, c);
+            return answered_with(REFUSED_SPREAD, self);
         }
         answered_with(DONE, c)
     }

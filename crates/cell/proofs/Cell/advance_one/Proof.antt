@@ -1,15 +1,13 @@
 use mathlib.Core.Path.{_≡_, sym, ap, _∙_}
-use Prim.Native.Nat.{_<_}
 use native.Mathlib.Omega.{arith}
 use borrow.Author.Tests.{not-true, not-false, ne-eqb, lt-ltb, le-ltb}
 use Rattle.base.specs.Refusals.{done, firstOf}
 use Rattle.host.specs.declared.Stepped.{Stepped}
 use Rattle.host.specs.Steps.{advanceRefusal, advanced}
 use Rattle.host.proofs.Kept.{advance-done, answer-advance}
-use Rattle.places.specs.Places.{blankHost}
 use Rattle.cell.specs.Limits.{hostAt}
 use Rattle.cell.specs.Events.{advancedOne, advanceOneRefusal, advanceOneOf}
-use Rattle.cell.proofs.Methods.{n-of, put-back}
+use Rattle.cell.proofs.Methods.{n-of}
 use borrow.Author.Needs.{needs}
 use Rattle.cell.proofs.Cell.advance_one.Statement.{statement}
 use Rattle.cell.proofs.Cell.advance_one.Tie as tie
@@ -68,12 +66,6 @@ clocks-ok-requires c κs =
     let i = n-of (c .before .before .before .before .before .before .before .before .before .before .before .args .t1) (sym (c .before .before .before .before .before .before .before .before .before .before .within-limits .ensures) ∙ not-false (c .before .before .before .before .before .before .before .before .before .before .within-limits .result) (c .before .before .before .before .before .before .before .before .before .if1 .left)) in
     (i .some, i .few)
 
--- the place of the host that is put back
-back : (c : tie.Then4) → c .before .before .before .before .before .before .before .before .before .before .before .before .before .args .host < 9
-back c =
-    let i = n-of (c .before .before .before .before .before .before .before .before .before .before .before .before .before .args .t1) (sym (c .before .before .before .before .before .before .before .before .before .before .before .before .within-limits .ensures) ∙ not-false (c .before .before .before .before .before .before .before .before .before .before .before .before .within-limits .result) (c .before .before .before .before .before .before .before .before .before .before .before .if1 .left)) in
-    omega (arith, i .few, c .before .before .before .before .before .before .before .before .if2 .left)
-
 answered-with-requires-4 : tie.Need-answered-with-requires-4
 answered-with-requires-4 c κs = search needs
 
@@ -86,7 +78,7 @@ returns-4 c =
     let p = c .before .before .before .before .before .before .before .advance in
     let e : advanceRefusal s h (a .d) ≡ done = sym (ap (λ (x : Stepped). x .answer) (p .ensures) ∙ answer-advance s h (a .d)) ∙ c .before .before .before .before .before .if3 .left in
     let q : p .result .host ≡ advanced h (a .d) = ap (λ (x : Stepped). x .host) (p .ensures ∙ advance-done s h (a .d) e) in
-    rw (c .answered-with4 .ensures, put-back (a .t1 .hosts) (a .host) (p .result .host) blankHost, ← c .before .before .before .before .before .before .before .before .before .before .before .before .before .within-limits .ensures, not-false (c .before .before .before .before .before .before .before .before .before .before .before .before .before .within-limits .result) (c .before .before .before .before .before .before .before .before .before .before .before .before .if1 .left), lt-ltb _ _ (c .before .before .before .before .before .before .before .before .before .if2 .left), e, ← q, ← c .before .before .clocks-ok .ensures, not-true (c .before .before .clocks-ok .result) (c .before .if4 .taken))
+    rw (c .answered-with4 .ensures, ← c .before .before .before .before .before .before .before .before .before .before .before .before .before .within-limits .ensures, not-false (c .before .before .before .before .before .before .before .before .before .before .before .before .before .within-limits .result) (c .before .before .before .before .before .before .before .before .before .before .before .before .if1 .left), lt-ltb _ _ (c .before .before .before .before .before .before .before .before .before .if2 .left), e, ← q, ← c .before .before .clocks-ok .ensures, not-true (c .before .before .clocks-ok .result) (c .before .if4 .taken))
 
 answered-with-requires-5 : tie.Need-answered-with-requires-5
 answered-with-requires-5 c κs = search needs
@@ -119,8 +111,6 @@ advance-one-spec =
     mul-moved
     element-set-from-moved
     clocks-ok-requires
-    (λ c. search needs)
-    back
     answered-with-requires-4
     returns-4
     answered-with-requires-5
