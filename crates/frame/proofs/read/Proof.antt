@@ -57,11 +57,15 @@ get-requires-2 c κs = search needs
 
 returns-4 : tie.Need-returns-4
 unfolding readOf readAnswer answer allHold
-returns-4 c = rw (fits (c .before .before .before), four (c .before .before .before), size (c .before .before .before), ne-eqb _ _ (c .before .before .if3 .left), ← c .before .get2 .ensures .0, ne-eqb _ _ (c .if4 .taken))
+returns-4 c =
+    let apart : eqb (toldLength (c .before .before .before .before .before .before .before .before .before .args .s .now)) (c .before .before .before .kind-of .result .len) ≡ false = rw (← c .before .get2 .ensures .0) (ne-eqb _ _ (c .if4 .taken)) in
+    rw (fits (c .before .before .before), four (c .before .before .before), size (c .before .before .before), ne-eqb _ _ (c .before .before .if3 .left), apart)
 
 returns-5 : tie.Need-returns-5
 unfolding readOf readAnswer answer allHold
-returns-5 c = rw (fits (c .before .before .before .before), four (c .before .before .before .before), size (c .before .before .before .before), ne-eqb _ _ (c .before .before .before .if3 .left), ← c .before .before .get2 .ensures .0, eq-eqb _ _ (c .before .if4 .left), lt-leb _ _ (c .if5 .taken))
+returns-5 c =
+    let same : eqb (toldLength (c .before .before .before .before .before .before .before .before .before .before .args .s .now)) (c .before .before .before .before .kind-of .result .len) ≡ true = rw (← c .before .before .get2 .ensures .0) (eq-eqb _ _ (c .before .if4 .left)) in
+    rw (fits (c .before .before .before .before), four (c .before .before .before .before), size (c .before .before .before .before), ne-eqb _ _ (c .before .before .before .if3 .left), same, lt-leb _ _ (c .if5 .taken))
 
 numbers-at-requires : tie.Need-numbers-at-requires
 numbers-at-requires c κs =

@@ -1,5 +1,5 @@
 use mathlib.Core.Path.{_≡_, sym, _∙_}
-use Prim.Native.Nat.{_≤_}
+use Prim.Native.Nat.{ℕ, _≤_}
 use native.Mathlib.Omega.{arith}
 use lib.ListN.{length}
 use borrow.Author.Tests.{ne-eqb}
@@ -7,11 +7,15 @@ use Rattle.base.proofs.Tests.{told}
 use Rattle.base.proofs.Stores.{sets-front}
 use Rattle.message.proofs.Laws.{kind-known}
 use Rattle.layout.proofs.Laws.{bytes-length}
+use Rattle.frame.specs.declared.Written.{Written}
 use Rattle.frame.specs.Writing.{frameOf, writeAnswer, writtenOf, afterWrite}
 use Rattle.frame.proofs.Answers.{write-found, answer-free}
 use borrow.Author.Needs.{needs}
 use Rattle.frame.proofs.write.Statement.{statement}
 use Rattle.frame.proofs.write.Tie as tie
+
+abbrev wrote : ℕ → ℕ → Written
+wrote answer len = record { answer = answer; len = len }
 
 -- the answer that was found is the definition's
 found : (c : tie.After-answer-of) → writeAnswer (c .before .before .before .before .before .args .n) (c .before .before .before .before .before .args .m) (length (c .before .before .before .before .before .args .out .now)) ≡ c .answer-of .result
@@ -58,7 +62,8 @@ returns-2 c =
     let z = long (c .before .before .before .before .before .before .before) in
     let fits = answer-free _ _ _ _ (told (c .before .before .before .before .before .answer-of .ensures) (c .before .before .before .before .if1 .left)) .fits in
     let k : length (frameOf (a .m)) ≤ length (a .out .now) = omega (arith, z, fits) in
-    (rw (d, c .before .before .before .before .if1 .left, z), rw d (rw (c .before .before .put-numbers .ensures, c .before .before .before .before .before .before .before .before .numbers-of .ensures) (sets-front (frameOf (a .m)) (a .out .now) k)))
+    let due : wrote (c .before .before .before .before .before .answer-of .result) (c .before .before .before .before .before .before .before .kind-of .result .len) ≡ writtenOf (a .n) (a .m) (length (a .out .now)) = rw (d, c .before .before .before .before .if1 .left, z) in
+    (due, rw d (rw (c .before .before .put-numbers .ensures, c .before .before .before .before .before .before .before .before .numbers-of .ensures) (sets-front (frameOf (a .m)) (a .out .now) k)))
 
 pub write-spec : {M : Type 1} → statement M
 write-spec =

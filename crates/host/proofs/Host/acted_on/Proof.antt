@@ -1,3 +1,6 @@
+use mathlib.Core.Path.{_≡_, sym, _∙_}
+use mathlib.Core.Bool.{true, false}
+use Rattle.rules.specs.Rules.{isWaiting}
 use Rattle.host.specs.Steps.{acted}
 use borrow.Author.Needs.{needs}
 use Rattle.host.proofs.Host.acted_on.Statement.{statement}
@@ -11,14 +14,20 @@ quiet-with-requires c κs = search needs
 
 returns : tie.Need-returns
 unfolding acted
-returns c = rw (c .quiet-with .ensures, ← c .before .before .is-waiting .ensures, c .before .if1 .taken)
+returns c =
+    let h = c .before .before .before .args .self in
+    let waits : isWaiting (h .clock) (h .wait) ≡ true = sym (c .before .before .is-waiting .ensures) ∙ c .before .if1 .taken in
+    rw (c .quiet-with .ensures, waits)
 
 on-message-requires : tie.Need-on-message-requires
 on-message-requires c κs = search needs
 
 returns-2 : tie.Need-returns-2
 unfolding acted
-returns-2 c = rw (c .on-message .ensures, ← c .before .before .is-waiting .ensures, c .before .if1 .left)
+returns-2 c =
+    let h = c .before .before .before .args .self in
+    let waits : isWaiting (h .clock) (h .wait) ≡ false = sym (c .before .before .is-waiting .ensures) ∙ c .before .if1 .left in
+    rw (c .on-message .ensures, waits)
 
 pub acted-on-spec : {M : Type 1} → statement M
 acted-on-spec =

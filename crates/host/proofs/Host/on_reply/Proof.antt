@@ -1,3 +1,6 @@
+use mathlib.Core.Path.{_≡_, sym, _∙_}
+use mathlib.Core.Bool.{true, false}
+use Rattle.rules.specs.Rules.{hasEnded}
 use Rattle.host.specs.Steps.{counted}
 use borrow.Author.Tests.{not-false, not-true}
 use Rattle.host.specs.Steps.{onReply}
@@ -33,7 +36,10 @@ quiet-with-requires-3 c κs = search needs
 
 returns-3 : tie.Need-returns-3
 unfolding onReply
-returns-3 c = rw (c .quiet-with3 .ensures, ← c .before .before .before .before .before .before .same .ensures, not-false (c .before .before .before .before .before .before .same .result) (c .before .before .before .before .before .if1 .left), ← c .before .before .before .before .counts-reply .ensures, not-false (c .before .before .before .before .counts-reply .result) (c .before .before .before .if2 .left), ← c .before .before .has-ended .ensures, c .before .if3 .taken)
+returns-3 c =
+    let a = c .before .before .before .before .before .before .before .args in
+    let ended : hasEnded (a .self .clock) (a .reply) ≡ true = sym (c .before .before .has-ended .ensures) ∙ c .before .if3 .taken in
+    rw (c .quiet-with3 .ensures, ← c .before .before .before .before .before .before .same .ensures, not-false (c .before .before .before .before .before .before .same .result) (c .before .before .before .before .before .if1 .left), ← c .before .before .before .before .counts-reply .ensures, not-false (c .before .before .before .before .counts-reply .result) (c .before .before .before .if2 .left), ended)
 
 counted-with-requires : tie.Need-counted-with-requires
 counted-with-requires c κs = search needs
@@ -44,7 +50,10 @@ asked-with-requires c κs = (c .before .before .before .before .before .before .
 
 returns-4 : tie.Need-returns-4
 unfolding onReply
-returns-4 c = rw (c .asked-with .ensures, c .before .counted-with .ensures, ← c .before .before .before .before .before .before .before .same .ensures, not-false (c .before .before .before .before .before .before .before .same .result) (c .before .before .before .before .before .before .if1 .left), ← c .before .before .before .before .before .counts-reply .ensures, not-false (c .before .before .before .before .before .counts-reply .result) (c .before .before .before .before .if2 .left), ← c .before .before .before .has-ended .ensures, c .before .before .if3 .left)
+returns-4 c =
+    let a = c .before .before .before .before .before .before .before .before .args in
+    let live : hasEnded (a .self .clock) (a .reply) ≡ false = sym (c .before .before .before .has-ended .ensures) ∙ c .before .before .if3 .left in
+    rw (c .asked-with .ensures, c .before .counted-with .ensures, ← c .before .before .before .before .before .before .before .same .ensures, not-false (c .before .before .before .before .before .before .before .same .result) (c .before .before .before .before .before .before .if1 .left), ← c .before .before .before .before .before .counts-reply .ensures, not-false (c .before .before .before .before .before .counts-reply .result) (c .before .before .before .before .if2 .left), live)
 
 pub on-reply-spec : {M : Type 1} → statement M
 on-reply-spec =
