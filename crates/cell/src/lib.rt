@@ -163,6 +163,7 @@ impl Cell {
         if !self.within_limits() {
             return answered_with(REFUSED_CELL, self);
         }
+        // Where a host refuses, the same hosts come back.
         let hosts = self.hosts;
         let after = places::advance_hosts(self.settings, hosts, d);
         let moved = after.hosts;
@@ -211,6 +212,7 @@ impl Cell {
         if step.answer != DONE {
             return answered_with(step.answer, self);
         }
+        // No slot was freed: slot 0 is put back as it is.
         let first = self.slots[0];
         self.carried(host as usize, step, 0, first)
     }
@@ -273,7 +275,7 @@ impl Cell {
         answered_with(DONE, c)
     }
 
-    // A message is placed once more, to its own target.
+    // A message is placed once more, to its own target; where that is refused, the same slots come back.
     fn repeated_with(self, m: Message) -> Answered
         requires { ⌜ (settingsOk (self .settings) ≡ true) × (faultOf (self .settings .n) (numbersOf m) ≡ 0) ⌝ }
         ensures { λ r. ⌜ r ≡ repeatedOf self m ⌝ }
