@@ -137,9 +137,13 @@ targetOf m = numbersOf m .target
 abbrev pub deliverStep : Cell → Message → Stepped
 deliverStep c m = acted (c .settings) (hostAt c (targetOf m)) m
 
+-- the slots of which 13 counts the empty ones
+abbrev pub countedFor : Cell → ℕ → List Slot
+countedFor c i = freed (c .slots) i
+
 unfoldable pub deliverFull : Cell → ℕ → Content → ℕ
 deliverFull c i Content.Empty = done
-deliverFull c i (Content.One m) = stepFull (freed (c .slots) i) (deliverStep c m)
+deliverFull c i (Content.One m) = stepFull (countedFor c i) (deliverStep c m)
 
 unfoldable pub deliverRefusal : Cell → ℕ → ℕ
 deliverRefusal c i = firstOf (unless (cellOk c) refusedCell ∷ slotRefusal i (contentAt c i) ∷ deliverFull c i (contentAt c i) ∷ [])

@@ -10,7 +10,7 @@ use Rattle.cell.specs.declared.Cell.{Cell}
 use Rattle.cell.specs.declared.Answered.{Answered}
 use Rattle.cell.specs.Events.{stepFull, stepped, answerWith, withSlots, targetOf, deliverStep}
 
--- a host's step carried into the cell; where 13 refuses it, one slot holds this in the cell that is handed back
+-- a host's step carried into the cell; where 13 refuses it, slot i of the cell that is handed back has `held`
 unfoldable pub carriedOf : Cell → ℕ → Stepped → ℕ → Slot → Answered
 carriedOf c h step i held = answerWith (stepFull (c .slots) step) (withSlots c (set (c .slots) i held)) (stepped c h (c .slots) step)
 

@@ -130,7 +130,7 @@ impl Cell {
         places::spread_ok(s, low, high)
     }
 
-    // A host is replaced, and what it sends is placed. Where placing is refused, the host is put back, and slot i holds what is handed in for that.
+    // A host is replaced, and what it sends is placed. Where placing is refused, the host is put back, and `held` into slot i.
     fn carried(self, host: usize, step: Stepped, i: usize, held: Slot) -> Answered
         requires { ⌜ (host < 9) × ((i < 96) × (self .settings .n ≤ 16)) ⌝ }
         ensures { λ r. ⌜ r ≡ carriedOf self host step i held ⌝ }

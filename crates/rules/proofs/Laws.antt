@@ -19,7 +19,7 @@ use Rattle.rules.specs.declared.LastTick.{LastTick}
 use Rattle.rules.specs.declared.Holder.{Holder}
 use Rattle.rules.specs.declared.Named.{Named}
 use Rattle.rules.specs.declared.Claim.{Claim}
-use Rattle.rules.specs.Rules.{isWaiting, waitEnd, acceptedAt, namedAt, ballotAt, isFresh, mayPromise, counts, hasEnded, replacesKept, higherOf, acts, ownEnd, claim, claimOf, isForbidden, mayAccept, afterAccept, namingBound, isNamable, namedBy}
+use Rattle.rules.specs.Rules.{isWaiting, waitEnd, leaseOver, acceptedAt, holderOver, namedAt, ballotAt, isFresh, mayPromise, counts, hasEnded, replacesKept, higherOf, acts, ownEnd, claim, ownIsLater, claimOf, isForbidden, mayAccept, afterAccept, namingBound, isNamable, namedBy}
 
 -- ---- the order of ballots
 
@@ -59,9 +59,9 @@ one-holder e = cc
 pub lease-live : (clock : ℕ) (a : Accepted) (l : Lease) → acceptedAt clock a ≡ Accepted.One l → clock < l .end .0
 unfolding acceptedAt
 lease-live clock Accepted.Nothing l e = true-false (cc)
-lease-live clock (Accepted.One k) l e = go (leb (k .end .0) clock) refl e
+lease-live clock (Accepted.One k) l e = go (leaseOver clock k) refl e
   where
-    go : (t : Bool) → leb (k .end .0) clock ≡ t → cond t Accepted.Nothing (Accepted.One k) ≡ Accepted.One l → clock < l .end .0
+    go : (t : Bool) → leaseOver clock k ≡ t → cond t Accepted.Nothing (Accepted.One k) ≡ Accepted.One l → clock < l .end .0
     go true p q = true-false (cc)
     go false p q = rw (← one-lease q) (leb-false (k .end .0) clock p)
 
@@ -74,9 +74,9 @@ lease-stays clock l h = rw (lt-leb (l .end .0) clock h)
 pub holder-live : (clock : ℕ) (m : Named) (h : Holder) → namedAt clock m ≡ Named.One h → clock < h .end .0
 unfolding namedAt
 holder-live clock Named.Nobody h e = true-false (cc)
-holder-live clock (Named.One k) h e = go (leb (k .end .0) clock) refl e
+holder-live clock (Named.One k) h e = go (holderOver clock k) refl e
   where
-    go : (t : Bool) → leb (k .end .0) clock ≡ t → cond t Named.Nobody (Named.One k) ≡ Named.One h → clock < h .end .0
+    go : (t : Bool) → holderOver clock k ≡ t → cond t Named.Nobody (Named.One k) ≡ Named.One h → clock < h .end .0
     go true p q = true-false (cc)
     go false p q = rw (← one-holder q) (leb-false (k .end .0) clock p)
 
@@ -160,7 +160,7 @@ claim-live-kept number clock own l h =
     (by-test Kept (eqb (l .owner) number) _ _
     (λ p.
     let o = eqb-true (l .owner) number p in
-    by-test Kept (leb (l .end .0) (own .0)) _ _ (λ q. (cc, leb-true (l .end .0) (own .0) q)) (λ q. (cc, omega arith)))
+    by-test Kept (ownIsLater own l) _ _ (λ q. (cc, leb-true (l .end .0) (own .0) q)) (λ q. (cc, omega arith)))
     (λ p. (refl, omega arith)))
   where
     Kept : Claim → Type 0
@@ -278,7 +278,7 @@ higher-one-of a b = by-test (λ (k : Accepted). (k ≡ Accepted.One a) ⊎ (k �
 -- a claim's end is one's own lease's or the kept one's, and no later than both
 pub claim-end : (number clock : ℕ) (own : KeepersEnd) (l : Lease) → (claimOf number clock own (Accepted.One l) .end ≡ own) ⊎ (claimOf number clock own (Accepted.One l) .end ≡ l .end)
 unfolding claimOf
-claim-end number clock own l = go (leb (l .end .0) clock) (eqb (l .owner) number) (leb (l .end .0) (own .0))
+claim-end number clock own l = go (leb (l .end .0) clock) (eqb (l .owner) number) (ownIsLater own l)
   where
     go : (a b c : Bool) → (cond a (claim number own) (cond b (cond c (claim number own) (claim (l .owner) (l .end))) (claim (l .owner) (l .end))) .end ≡ own)
         ⊎ (cond a (claim number own) (cond b (cond c (claim number own) (claim (l .owner) (l .end))) (claim (l .owner) (l .end))) .end ≡ l .end)

@@ -26,14 +26,20 @@ unfoldable pub waitEnd : ℕ → ℕ → ℕ → ℕ
 waitEnd clock longest spread = clock + longest + spread
 
 -- 'drops an accepted lease .. whose end is at or below its clock'
+abbrev pub leaseOver : ℕ → Lease → Bool
+leaseOver clock l = leb (l .end .0) clock
+
 unfoldable pub acceptedAt : ℕ → Accepted → Accepted
 acceptedAt clock Accepted.Nothing = Accepted.Nothing
-acceptedAt clock (Accepted.One l) = cond (leb (l .end .0) clock) Accepted.Nothing (Accepted.One l)
+acceptedAt clock (Accepted.One l) = cond (leaseOver clock l) Accepted.Nothing (Accepted.One l)
 
 -- 'or named holder whose end is at or below its clock'
+abbrev pub holderOver : ℕ → Holder → Bool
+holderOver clock h = leb (h .end .0) clock
+
 unfoldable pub namedAt : ℕ → Named → Named
 namedAt clock Named.Nobody = Named.Nobody
-namedAt clock (Named.One h) = cond (leb (h .end .0) clock) Named.Nobody (Named.One h)
+namedAt clock (Named.One h) = cond (holderOver clock h) Named.Nobody (Named.One h)
 
 -- ---- start
 
@@ -84,6 +90,10 @@ ownEnd tick duration spread = keepersOf (record { 0 = tick + duration }) spread
 abbrev pub claim : ℕ → KeepersEnd → Claim
 claim o e = record { owner = o; end = e }
 
+-- of one's own end and the kept lease's, the first is as late or later
+abbrev pub ownIsLater : KeepersEnd → Lease → Bool
+ownIsLater own l = leb (l .end .0) (own .0)
+
 -- 'if no lease was kept, or its end has come, the lease is the host's own'; 'if the kept lease is its own, the later of that end and
 -- the kept one'; 'else the kept lease unchanged'
 unfoldable pub claimOf : ℕ → ℕ → KeepersEnd → Accepted → Claim
@@ -91,7 +101,7 @@ claimOf number clock own Accepted.Nothing = claim number own
 claimOf number clock own (Accepted.One l) =
     cond (leb (l .end .0) clock) (claim number own)
     (cond (eqb (l .owner) number)
-    (cond (leb (l .end .0) (own .0)) (claim number own) (claim (l .owner) (l .end)))
+    (cond (ownIsLater own l) (claim number own) (claim (l .owner) (l .end)))
     (claim (l .owner) (l .end)))
 
 -- ---- propose request

@@ -1,9 +1,10 @@
 -- Laws of the messages under way: what holds of each of them stays so when a slot is freed or a message placed, and the slots stay
 -- as many. Assumes nothing.
 use mathlib.Core.Path.{_≡_, refl, _∙_}
-use mathlib.Core.Bool.{true}
+use mathlib.Core.Bool.{Bool, true, false, cond}
 use mathlib.Core.List.{List, [], _∷_}
-use Prim.Native.Nat.{ℕ}
+use Prim.Native.Nat.{ℕ, zero, suc, _≤_, _<_}
+use native.Mathlib.Omega.{arith}
 use lib.ListN.{length, getD, length-set}
 use borrow.Author.Tests.{eqb-true, eq-eqb}
 use Rattle.base.specs.Refusals.{done}
@@ -15,7 +16,7 @@ use Rattle.message.specs.Message.{numbersOf, messageTo}
 use Rattle.message.specs.Faults.{faultOf}
 use Rattle.slots.specs.declared.Content.{Content}
 use Rattle.slots.specs.declared.Slot.{Slot}
-use Rattle.slots.specs.Slots.{slotCount, emptySlot, slotWith, noMessages, contentOk, slotsOk, lowest, placed, placedEach, freed}
+use Rattle.slots.specs.Slots.{slotCount, emptySlot, slotWith, noMessages, isEmpty, contentOk, slotsOk, empties, lowest, placed, placedEach, freed}
 
 -- ---- as many slots
 
@@ -30,6 +31,17 @@ length-placed-each ss m (h ∷ hs) = length-placed-each (placed ss (messageTo m 
 
 pub length-freed : (ss : List Slot) (i : ℕ) → length (freed ss i) ≡ length ss
 length-freed ss i = length-set ss i emptySlot
+
+-- a freed slot is counted as an empty one
+pub freed-counts : (ss : List Slot) (i : ℕ) → i < length ss → 1 ≤ empties (freed ss i)
+unfolding empties isEmpty
+freed-counts [] i h = absurd (omega arith)
+freed-counts (s ∷ ss) zero h = omega arith
+freed-counts (s ∷ ss) (suc i) h = go (isEmpty (s .content)) (freed-counts ss i (omega arith))
+  where
+    go : (b : Bool) → 1 ≤ empties (freed ss i) → 1 ≤ cond b (suc (empties (freed ss i))) (empties (freed ss i))
+    go true p = omega arith
+    go false p = p
 
 -- ---- what holds of each message under way
 
