@@ -1,12 +1,11 @@
 -- Every event in one form, what is refused and what is done apart; that the settings stay; and laws of the parts of the cell
--- afterwards: one host replaced, what a step sends; and that a delivery's one reply always fits. Assumes nothing.
+-- afterwards: one host replaced, what a step sends. Assumes nothing.
 use mathlib.Core.Path.{_≡_, refl, sym}
 use mathlib.Core.List.{List}
-use Prim.Native.Nat.{ℕ, _≤_, _<_}
-use native.Mathlib.Omega.{arith}
+use Prim.Native.Nat.{ℕ}
 use lib.Dec.{eqb}
 use lib.ListN.{length, set}
-use borrow.Author.Tests.{eqb-true, eqb-false, le-leb}
+use borrow.Author.Tests.{eqb-true, eqb-false}
 use Rattle.base.specs.Refusals.{done}
 use Rattle.base.proofs.Lists.{all-map}
 use Rattle.base.proofs.Tests.{by-test}
@@ -18,14 +17,14 @@ use Rattle.host.specs.declared.Sent.{Sent}
 use Rattle.host.specs.Steps.{restarted}
 use Rattle.slots.specs.declared.Slot.{Slot}
 use Rattle.slots.specs.declared.Content.{Content}
-use Rattle.slots.specs.Slots.{empties, freed}
-use Rattle.slots.proofs.Laws.{Holds, holds-placed-each, length-placed-each, freed-counts}
+use Rattle.slots.specs.Slots.{freed}
+use Rattle.slots.proofs.Laws.{Holds, holds-placed-each, length-placed-each}
 use Rattle.cell.specs.declared.Cell.{Cell}
 use Rattle.cell.specs.declared.Event.{Event}
 use Rattle.cell.specs.declared.Event.the-variants.{AdvanceAll, AdvanceOne, Start, Deliver, Lose, Repeat, Restart}
 use Rattle.cell.specs.declared.Answered.{Answered}
 use Rattle.cell.specs.Limits.{hostAt, contentAt}
-use Rattle.cell.specs.Events.{answered, answerWith, withHosts, withSlots, messagesIn, sentTo, stepped, advanceAllRefusal, advancedAll, advanceAllOf, advancedOne, advanceOneRefusal, advanceOneOf, startStep, startAtRefusal, startAtOf, deliverStep, countedFor, deliverFull, deliverRefusal, delivered, deliverOf, loseRefusal, loseOf, repeatRefusal, repeated, repeatOf, restartAtRefusal, restartAtOf, eventOf}
+use Rattle.cell.specs.Events.{answered, answerWith, withHosts, withSlots, sentTo, stepped, advanceAllRefusal, advancedAll, advanceAllOf, advancedOne, advanceOneRefusal, advanceOneOf, startStep, startAtRefusal, startAtOf, deliverRefusal, delivered, deliverOf, loseRefusal, loseOf, repeatRefusal, repeated, repeatOf, restartAtRefusal, restartAtOf, eventOf}
 
 -- ---- an event: the number that it is refused by, and the cell where nothing is refused
 
@@ -105,13 +104,3 @@ pub holds-sent : (P : Message → Type 0) (n : ℕ) (ss : List Slot) (sent : Sen
 unfolding sentTo
 holds-sent P n ss Sent.Nothing receivers p f = p
 holds-sent P n ss (Sent.One m) receivers p f = holds-placed-each P ss m (members n receivers) p (all-map (members n receivers) (λ h i. f m h refl i) (members-all n receivers))
-
--- ---- a delivery counts the slot that it frees as empty: what is sent to one host always fits
-
-freed-counted : (c : Cell) (i : ℕ) → i < length (c .slots) → 1 ≤ empties (countedFor c i)
-freed-counted c i b = freed-counts (c .slots) i b
-
-pub reply-fits : (c : Cell) (i : ℕ) (m : Message) → i < length (c .slots) → messagesIn (deliverStep c m .sent) (deliverStep c m .receivers) ≤ 1
-    → deliverFull c i (Content.One m) ≡ done
-unfolding deliverFull
-reply-fits c i m b k = rw (le-leb (messagesIn (deliverStep c m .sent) (deliverStep c m .receivers)) (empties (countedFor c i)) (omega (arith, freed-counted c i b)))

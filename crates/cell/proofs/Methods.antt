@@ -3,10 +3,10 @@
 use mathlib.Core.Path.{_≡_, refl, sym, ap, _∙_}
 use mathlib.Core.Bool.{Bool, true, false, cond, _&&_}
 use mathlib.Core.List.{List, [], _∷_}
-use Prim.Native.Nat.{ℕ, _<_}
+use Prim.Native.Nat.{ℕ, _≤_, _<_}
 use native.Mathlib.Omega.{arith}
 use lib.Dec.{leb, eqb}
-use lib.ListN.{getD, set}
+use lib.ListN.{length, getD, set}
 use lib.Seq.{set-getD, set-set}
 use borrow.Author.Tests.{ltb-true, lt-ltb, le-leb, ne-eqb}
 use Rattle.base.specs.Refusals.{done, unless, firstOf, refusedCell, refusedHost, refusedFull}
@@ -30,10 +30,10 @@ use Rattle.slots.specs.declared.Slot.{Slot}
 use Rattle.slots.specs.declared.Content.{Content}
 use Rattle.slots.specs.declared.Placed.{Placed}
 use Rattle.slots.specs.Slots.{slotCount, emptySlot, isEmpty, slotsOk, slotRefusal, empties, fullRefusal, placed, placedEach, placedTo, placeOf, freed}
-use Rattle.slots.proofs.Laws.{Sendable, slots-in, holds-at}
+use Rattle.slots.proofs.Laws.{freed-counts, Sendable, slots-in, holds-at}
 use Rattle.cell.specs.declared.Cell.{Cell}
 use Rattle.cell.specs.Limits.{hostAt, contentAt, cellOk}
-use Rattle.cell.specs.Events.{answered, answerWith, withHosts, withSlots, advanceAllRefusal, advancedAll, advanceAllOf, hostRefusal, messagesIn, stepFull, sentTo, stepped, startStep, startAtRefusal, startAtOf, targetOf, deliverStep, deliverFull, deliverRefusal, delivered, deliverOf, repeatRefusal, repeated, repeatOf}
+use Rattle.cell.specs.Events.{answered, answerWith, withHosts, withSlots, advanceAllRefusal, advancedAll, advanceAllOf, hostRefusal, messagesIn, stepFull, sentTo, stepped, startStep, startAtRefusal, startAtOf, targetOf, deliverStep, countedFor, deliverFull, deliverRefusal, delivered, deliverOf, repeatRefusal, repeated, repeatOf}
 use Rattle.cell.specs.Parts.{carriedOf, deliveredOf, repeatedOf}
 
 -- ---- what the limits tell with no word on lengths
@@ -172,6 +172,16 @@ own-placed c m f = ap (λ (x : Placed). answered (x .answer) (withSlots c (x .sl
     go true = refl
     go false = refl
 
+-- a delivery counts the slot that it frees as empty, so that what it sends to one host always fits
+
+freed-counted : (c : Cell) (i : ℕ) → i < length (c .slots) → 1 ≤ empties (countedFor c i)
+freed-counted c i b = freed-counts (c .slots) i b
+
+pub reply-fits : (c : Cell) (i : ℕ) (m : Message) → i < length (c .slots) → messagesIn (deliverStep c m .sent) (deliverStep c m .receivers) ≤ 1
+    → deliverFull c i (Content.One m) ≡ done
+unfolding deliverFull
+reply-fits c i m b k = rw (le-leb (messagesIn (deliverStep c m .sent) (deliverStep c m .receivers)) (empties (countedFor c i)) (omega (arith, freed-counted c i b)))
+
 -- ---- events, their first tests passed: the refusals that are left
 
 cell-passed : (c : Cell) (ks : List ℕ) → cellOk c ≡ true → firstOf (unless (cellOk c) refusedCell ∷ ks) ≡ firstOf ks
@@ -197,17 +207,17 @@ start-carried c h d e b r =
     ∙ ap (λ (ss : List Slot). answerWith (stepFull (c .slots) (startStep c h d)) (withSlots c ss) (stepped c h (c .slots) (startStep c h d))) (sym (set-getD (c .slots) 0 emptySlot))
 
 deliver-left : (c : Cell) (i : ℕ) (m : Message) → cellOk c ≡ true → i < slotCount → contentAt c i ≡ Content.One m
-    → deliverRefusal c i ≡ stepFull (freed (c .slots) i) (deliverStep c m)
+    → deliverRefusal c i ≡ stepFull (countedFor c i) (deliverStep c m)
 unfolding deliverRefusal deliverFull
 deliver-left c i m e b f =
     cell-passed c _ e ∙ ap (λ (t : Content). firstOf (slotRefusal i t ∷ deliverFull c i t ∷ [])) f ∙ slot-passed i m _ b
-    ∙ first-only (stepFull (freed (c .slots) i) (deliverStep c m))
+    ∙ first-only (stepFull (countedFor c i) (deliverStep c m))
 
 pub deliver-carried : (c : Cell) (i : ℕ) (m : Message) → cellOk c ≡ true → i < slotCount → contentAt c i ≡ Content.One m → deliverOf c i ≡ deliveredOf c i m
 unfolding deliverOf deliveredOf delivered
 deliver-carried c i m e b f =
     ap (λ (k : ℕ). answerWith k c (delivered c i (contentAt c i))) (deliver-left c i m e b f)
-    ∙ ap (λ (t : Content). answerWith (stepFull (freed (c .slots) i) (deliverStep c m)) c (delivered c i t)) f
+    ∙ ap (λ (t : Content). answerWith (stepFull (countedFor c i) (deliverStep c m)) c (delivered c i t)) f
 
 -- the step of a message's target, in the cell with the message's slot freed
 pub freed-carried : (c : Cell) (i : ℕ) (m : Message)
