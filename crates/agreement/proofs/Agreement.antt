@@ -16,7 +16,7 @@ use Rattle.theory.proofs.Numbers.{le-or-lt}
 use Rattle.theory.proofs.Agreement as T
 use Rattle.agreement.specs.Demand3.{Names, Agreement}
 use Rattle.agreement.proofs.Map.{asHolder, setup}
-use Rattle.agreement.proofs.Kept.{opening-in, kept-run}
+use Rattle.cell.proofs.Kept.{opening-in, kept-run}
 use Rattle.agreement.proofs.Explained.{Explained, explained-run, explained-opening}
 
 -- what a host of the cell names, it names in the world; a place at n or above names nobody
@@ -30,12 +30,12 @@ named-in {s} {c} {w} x i h o (k, e, q) = go (le-or-lt (s .n) h)
     go (inr b) = (_, ap (λ (v : M.Host (setup s)). v .named) (x .host h b .host) ∙ ap asHolder e, q)
 
 pub agreement : Agreement
-agreement n longest spread clock events h k o p a b =
-    let at = explained-opening n longest spread clock in
-    let fits = opening-in n longest spread clock in
-    let next = explained-run events (fits .0) (fits .1) (at .explained) in
-    let kept = kept-run (opening n longest spread clock) events (fits .0) (fits .1) in
-    let limits = cell-in (run (opening n longest spread clock) events) (kept .0) (kept .1) in
+agreement s clock events h k o p a b =
+    let at = explained-opening s clock in
+    let fits = opening-in s clock in
+    let next = explained-run events fits (at .explained) in
+    let kept = kept-run (opening s clock) events fits in
+    let limits = cell-in (run (opening s clock) events) (kept .0) (kept .1) in
     let x = named-in (next .explained) limits h o a in
     let y = named-in (next .explained) limits k p b in
     sym (x .2) ∙ T.agreement (at .clock) (next .reach) h k (x .0) (y .0) (x .1) (y .1) ∙ y .2

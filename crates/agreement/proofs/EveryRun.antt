@@ -3,30 +3,30 @@ use mathlib.Core.Path.{_≡_, refl, _∙_}
 use mathlib.Core.List.{List, [], _∷_}
 use Rattle.cell.specs.declared.Cell.{Cell}
 use Rattle.cell.specs.declared.Event.{Event}
-use Rattle.cell.specs.Events.{eventOf}
+use Rattle.cell.specs.Events.{cellOf, eventOf}
 use Rattle.cell.specs.Runs.{opening, run}
-use Rattle.cell.proofs.Events.{settings-same}
+use Rattle.cell.proofs.Limits.{cell-in}
+use Rattle.cell.proofs.Events.{refused-same, settings-same}
 use Rattle.agreement.specs.EveryRun.{EveryRun}
-use Rattle.agreement.proofs.Kept.{opening-in, kept-run, refused-same}
+use Rattle.cell.proofs.Kept.{opening-in, kept-run}
 use Rattle.agreement.proofs.Numbers.{own-number, never-cell}
-use Rattle.agreement.proofs.Clocks.{clock-rises-run, clocks-near}
+use Rattle.agreement.proofs.Clocks.{clock-rises-run}
 
 settings-run : (c : Cell) (events : List Event) → run c events .settings ≡ c .settings
 unfolding run
 settings-run c [] = refl
-settings-run c (e ∷ events) = settings-run (eventOf c e .cell) events ∙ settings-same c e
+settings-run c (e ∷ events) = settings-run (cellOf (eventOf c e)) events ∙ settings-same c e
 
 pub every-run : EveryRun
-every-run n longest spread clock events =
-    let c = run (opening n longest spread clock) events in
-    let fits = opening-in n longest spread clock in
-    let kept = kept-run (opening n longest spread clock) events (fits .0) (fits .1) in
+every-run s clock events =
+    let c = run (opening s clock) events in
+    let kept = kept-run (opening s clock) events (opening-in s clock) in
     record {
       within = kept .1;
       never-1 = λ e. never-cell c e (kept .0) (kept .1);
       own-number = λ e. own-number c e (kept .0) (kept .1);
       unchanged = refused-same c;
       settings = settings-run c;
-      rising = clock-rises-run c;
-      near = clocks-near n longest spread clock events;
+      rising = λ later. clock-rises-run c later kept;
+      near = cell-in c (kept .0) (kept .1) .near;
     }

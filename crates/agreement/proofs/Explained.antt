@@ -9,14 +9,10 @@ use mathlib.Core.Bool.{true, cond}
 use mathlib.Core.List.{List, [], _∷_}
 use mathlib.Core.Option.{none, some, Option·none-ne-some}
 use lib.Dec.{ltb, leb}
-use lib.ListN.{length, getD, set, length-set}
-use lib.Seq.{getD-set-same, getD-set-other}
-use borrow.Author.Tests.{ltb-true, leb-true, leb-false, lt-ltb, le-ltb}
+use borrow.Author.Tests.{leb-true, leb-false, lt-ltb, le-ltb}
 use Rattle.base.specs.Refusals.{done, refusedSpread}
 use Rattle.base.proofs.Tests.{by-test, first-passed, unless-passed}
 use Rattle.message.specs.declared.Message.{Message}
-use Rattle.message.specs.Message.{numbersOf}
-use Rattle.message.proofs.Laws.{fault-passed}
 use Rattle.rules.specs.declared.Accepted.{Accepted}
 use Rattle.rules.specs.declared.Named.{Named}
 use Rattle.rules.specs.Rules.{waitEnd, acceptedAt, namedAt}
@@ -25,10 +21,8 @@ use Rattle.state.specs.Limits.{settingsOk}
 use Rattle.host.specs.declared.Host.{Host}
 use Rattle.host.specs.declared.Stepped.{Stepped}
 use Rattle.host.specs.Steps.{quiet, advanceRefusal, advanced, restarted, startRefusal}
-use Rattle.host.proofs.Limits.{settings-in}
-use Rattle.places.specs.Places.{unwaited, blankHost, clocksOk, newHost, eachHost}
-use Rattle.places.proofs.Limits.{clocks-in}
-use Rattle.places.proofs.Each.{each-below}
+use Rattle.host.proofs.Limits.{SettingsIn, settings-in}
+use Rattle.places.specs.Places.{unwaited, newHost}
 use Rattle.slots.specs.declared.Content.{Content}
 use Rattle.slots.specs.declared.Slot.{Slot}
 use Rattle.slots.specs.Slots.{freed}
@@ -37,19 +31,19 @@ use Rattle.cell.specs.declared.Cell.{Cell}
 use Rattle.cell.specs.declared.Event.{Event}
 use Rattle.cell.specs.declared.Event.the-variants.{AdvanceAll, AdvanceOne, Start, Deliver, Lose, Repeat, Restart}
 use Rattle.cell.specs.declared.Answered.{Answered}
-use Rattle.cell.specs.Limits.{hostAt, contentAt, cellOk}
-use Rattle.cell.specs.Events.{withHosts, withSlots, sentTo, stepped, opened, advancedAll, advancedOne, advanceOneRefusal, startStep, startAtRefusal, targetOf, deliverStep, delivered, repeated, restartAtRefusal, eventOf}
+use Rattle.cell.specs.Limits.{hostAt, withHost, contentAt, clocksNear}
+use Rattle.cell.specs.Events.{cellOf, withSlots, sentTo, stepped, opened, advancedAll, advancedOne, advanceOneRefusal, startStep, startAtRefusal, targetOf, deliverStep, delivered, repeated, restartAtRefusal, refusalOf, afterOf, eventOf}
 use Rattle.cell.specs.Runs.{opening, run}
-use Rattle.cell.proofs.Limits.{Sized, CellIn, cell-in, within}
-use Rattle.cell.proofs.Events.{refusalOf, afterOf, by-outcome, holds-sent}
-use Rattle.base.proofs.Lists.{by-place}
+use Rattle.cell.proofs.Hosts.{Sized, sized-host, host-same, host-other, by-host, all-below, near-in}
+use Rattle.cell.proofs.Limits.{CellIn, cell-in, target-in}
+use Rattle.cell.proofs.Events.{by-outcome, holds-sent}
 use Rattle.theory.specs.Numbers as N
 use Rattle.theory.specs.Model as M
 use Rattle.theory.specs.Model.{World, Aged, aged, age, Reach, here, then}
 use Rattle.theory.proofs.Numbers.{le-or-lt}
 use Rattle.agreement.proofs.Map.{asLease, asHolder, asMessage, message-to, setup, asHost, Stands, Acted, reach-then}
 use Rattle.agreement.proofs.Turns.{turn-restarted, turn-started, turn-acted}
-use Rattle.agreement.proofs.Kept.{host-passed, by-opening, opened-at, kept-event}
+use Rattle.cell.proofs.Kept.{Sound, host-passed, by-opening, opened-at, kept-event}
 
 -- the message is sent in w
 abbrev pub SentIn : {s : Settings} → World (setup s) → Message → Type 0
@@ -76,9 +70,9 @@ module _ {s : Settings} {c : Cell} {w : World (setup s)} (x : Explained s c w) w
   stayed = record { now = w; reach = here; explained = x }
 
   -- a host has taken a step that the theory takes for its own: so has the cell
-  pub explained-step : (h : ℕ) → h < s .n → h < length (c .hosts) → (ss : List Slot) → Holds (SentIn w) ss → (t : Stepped) → Acted s w h t → Next s w (stepped c h ss t)
+  pub explained-step : (h : ℕ) → h < 9 → Sized c → (ss : List Slot) → Holds (SentIn w) ss → (t : Stepped) → Acted s w h t → Next s w (stepped c h ss t)
   unfolding stepped
-  explained-step h i fits ss q t a = record {
+  explained-step h few z ss q t a = record {
     now = a .now;
     reach = a .reach;
     explained = record {
@@ -91,11 +85,11 @@ module _ {s : Settings} {c : Cell} {w : World (setup s)} (x : Explained s c w) w
     };
   }
     where
-      stands : (k : ℕ) → k < s .n → Dec (k ≡ h) → Stands s (a .now) k (getD (set (c .hosts) h (t .host)) k blankHost)
-      stands k b (yes e) = rw (e, getD-set-same (c .hosts) h (t .host) blankHost fits) (a .stands)
+      stands : (k : ℕ) → k < s .n → Dec (k ≡ h) → Stands s (a .now) k (hostAt (withHost c h (t .host)) k)
+      stands k b (yes e) = rw (e, host-same c h (t .host) z few) (a .stands)
       stands k b (no d) =
           let e = x .host k b in
-          rw (getD-set-other (c .hosts) h k (t .host) blankHost d) (record { host = a .others k d ∙ e .host; clock = a .clocks k ∙ e .clock })
+          rw (host-other c h (t .host) k d) (record { host = a .others k d ∙ e .host; clock = a .clocks k ∙ e .clock })
 
 -- ---- time
 
@@ -148,27 +142,27 @@ module _ {s : Settings} {c : Cell} {w : World (setup s)} (x : Explained s c w) w
   nameless v = record { wait = v .wait; promised = v .promised; last = v .last; accepted = v .accepted; round = v .round; named = none }
 
   -- the cell's hosts are older: so is the world. What other numbers name is dropped, and their clocks follow host 0's.
-  pub explained-age : 1 ≤ s .n → (hs : List Host) → ((h : ℕ) → h < s .n → Older s (hostAt c h) (getD hs h blankHost))
-      → ((h k : ℕ) → h < s .n → k < s .n → getD hs h blankHost .clock ≤ getD hs k blankHost .clock + s .spread) → Next s w (withHosts c hs)
-  explained-age first hs older near = record {
+  pub explained-age : 1 ≤ s .n → (d : Cell) → d .settings ≡ c .settings → d .slots ≡ c .slots → ((h : ℕ) → h < s .n → Older s (hostAt c h) (hostAt d h))
+      → ((h k : ℕ) → h < s .n → k < s .n → hostAt d h .clock ≤ hostAt d k .clock + s .spread) → Next s w d
+  explained-age first d same-settings same-slots older near = record {
     now = aged w clock host;
     reach = then here (age clock host (λ h. rises h (le-or-lt (s .n) h)) (λ h k. apart h k (le-or-lt (s .n) h) (le-or-lt (s .n) k)) (λ h. ages h (le-or-lt (s .n) h)));
-    explained = record { settings = x .settings; host = λ h i. record { host = host-in h i; clock = clock-in h i }; beyond = λ h i. clock-out h i ∙ sym (clock-in 0 first); messages = x .messages };
+    explained = record { settings = same-settings ∙ x .settings; host = λ h i. record { host = host-in h i; clock = clock-in h i }; beyond = λ h i. clock-out h i ∙ sym (clock-in 0 first); messages = rw same-slots (x .messages) };
   }
     where
       clock : ℕ → ℕ
-      clock h = cond (ltb h (s .n)) (getD hs h blankHost .clock) (getD hs 0 blankHost .clock)
+      clock h = cond (ltb h (s .n)) (hostAt d h .clock) (hostAt d 0 .clock)
 
       host : ℕ → M.Host (setup s)
-      host h = cond (ltb h (s .n)) (asHost s (getD hs h blankHost)) (nameless (w .host h))
+      host h = cond (ltb h (s .n)) (asHost s (hostAt d h)) (nameless (w .host h))
 
-      clock-in : (h : ℕ) → h < s .n → clock h ≡ getD hs h blankHost .clock
+      clock-in : (h : ℕ) → h < s .n → clock h ≡ hostAt d h .clock
       clock-in h i = rw (lt-ltb h (s .n) i)
 
-      clock-out : (h : ℕ) → s .n ≤ h → clock h ≡ getD hs 0 blankHost .clock
+      clock-out : (h : ℕ) → s .n ≤ h → clock h ≡ hostAt d 0 .clock
       clock-out h i = rw (le-ltb h (s .n) i)
 
-      host-in : (h : ℕ) → h < s .n → host h ≡ asHost s (getD hs h blankHost)
+      host-in : (h : ℕ) → h < s .n → host h ≡ asHost s (hostAt d h)
       host-in h i = rw (lt-ltb h (s .n) i)
 
       host-out : (h : ℕ) → s .n ≤ h → host h ≡ nameless (w .host h)
@@ -188,7 +182,7 @@ module _ {s : Settings} {c : Cell} {w : World (setup s)} (x : Explained s c w) w
       ages h (inr i) =
           let e = x .host h i in
           subst₂ (λ a b. Aged a b (w .host h) (host h)) (sym (e .clock)) (sym (clock-in h i))
-          (subst₂ (λ v u. Aged (hostAt c h .clock) (getD hs h blankHost .clock) v u) (sym (e .host)) (sym (host-in h i)) (older h i .ages))
+          (subst₂ (λ v u. Aged (hostAt c h .clock) (hostAt d h .clock) v u) (sym (e .host)) (sym (host-in h i)) (older h i .ages))
       ages h (inl i) =
           subst (λ u. Aged (w .clock h) (clock h) (w .host h) u) (sym (host-out h i))
           (record { same-wait = refl; same-promised = refl; same-last = refl; same-round = refl; accepted-aged = inl refl; named-aged = λ n q. absurd (Option·none-ne-some n q) })
@@ -200,38 +194,35 @@ module _ {c : Cell} {w : World (setup (c .settings))} (x : Explained (c .setting
   stands : (h : ℕ) → h < c .settings .n → Stands (c .settings) w (hostAt c h .number) (hostAt c h)
   stands h b = subst (λ k. Stands (c .settings) w k (hostAt c h)) (sym (i .number h b)) (x .host h b)
 
-  fits : (h : ℕ) → h < c .settings .n → h < length (c .hosts)
-  fits h b = omega (arith, within c z (i .settings))
+  numbers : SettingsIn (c .settings)
+  numbers = settings-in (c .settings) (i .settings)
 
   -- a host has taken a step under its own number
   after-step : (h : ℕ) → h < c .settings .n → (ss : List Slot) → Holds (SentIn w) ss → (t : Stepped) → Acted (c .settings) w (hostAt c h .number) t
       → Next (c .settings) w (stepped c h ss t)
-  after-step h b ss q t a = explained-step x h b (fits h b) ss q t (subst (λ k. Acted (c .settings) w k t) (i .number h b) a)
+  after-step h b ss q t a = explained-step x h (omega (arith, b, numbers .few)) z ss q t (subst (λ k. Acted (c .settings) w k t) (i .number h b) a)
 
   after-advance-all : (d : ℕ) → Next (c .settings) w (advancedAll c d)
   unfolding advancedAll advanced
   after-advance-all d =
-      explained-age x (settings-in (c .settings) (i .settings) .some) _ (λ h b. rw (at h b) (older-advanced (c .settings) (hostAt c h) d))
+      explained-age x (numbers .some) (advancedAll c d) refl refl (λ h b. rw (at h b) (older-advanced (c .settings) (hostAt c h) d))
       (λ h k a b. rw (at h a, at k b) (omega (arith, i .near h k a b)))
     where
-      at : (h : ℕ) → h < c .settings .n → getD (eachHost (c .settings .n) (λ h. advanced h d) (c .hosts)) h blankHost ≡ advanced (hostAt c h) d
-      at h b = each-below (c .settings .n) (λ h. advanced h d) (c .hosts) h blankHost b (fits h b)
+      at : (h : ℕ) → h < c .settings .n → hostAt (advancedAll c d) h ≡ advanced (hostAt c h) d
+      at h b = all-below c d z (numbers .few) h b
 
   after-advance-one : (h d : ℕ) → advanceOneRefusal c h d ≡ done → Next (c .settings) w (advancedOne c h d)
   unfolding advanceOneRefusal advancedOne
   after-advance-one h d e =
       let p1 = host-passed c h _ e in
       let p2 = first-passed (advanceRefusal (c .settings) (hostAt c h) d) _ (p1 .1) in
-      let p3 = unless-passed (clocksOk (c .settings) hs) refusedSpread [] refl (p2 .1) in
-      explained-age x (settings-in (c .settings) (i .settings) .some) hs
-      (λ k _. by-place (Older (c .settings) (hostAt c k)) (c .hosts) h later k blankHost (λ g. rw g (older-advanced (c .settings) (hostAt c h) d)) (older-same (c .settings) (hostAt c k)))
-      (clocks-in (c .settings) hs (omega (arith, within c z (i .settings), length-set (c .hosts) h later)) (p3 .0))
+      let p3 = unless-passed (clocksNear (withHost c h later)) refusedSpread [] refl (p2 .1) in
+      explained-age x (numbers .some) (withHost c h later) refl refl
+      (λ k _. by-host c h later (Older (c .settings) (hostAt c k)) k (λ g. rw g (older-advanced (c .settings) (hostAt c h) d)) (older-same (c .settings) (hostAt c k)))
+      (near-in (withHost c h later) (sized-host c h later z) (i .settings) (p3 .0))
     where
       later : Host
       later = advanced (hostAt c h) d
-
-      hs : List Host
-      hs = set (c .hosts) h later
 
   after-start : (h d : ℕ) → startAtRefusal c h d ≡ done → Next (c .settings) w (stepped c h (c .slots) (startStep c h d))
   unfolding startAtRefusal
@@ -246,7 +237,7 @@ module _ {c : Cell} {w : World (setup (c .settings))} (x : Explained (c .setting
   after-deliver k (Content.One m) e =
       let h = targetOf m in
       let f = holds-at (Sendable (c .settings .n)) (c .slots) k m (i .messages) e in
-      let b = ltb-true h (c .settings .n) (fault-passed (c .settings .n) (numbersOf m) f .target) in
+      let b = target-in (c .settings .n) m f in
       after-step h b (freed (c .slots) k) (holds-freed (SentIn w) (c .slots) k (x .messages)) (deliverStep c m)
       (turn-acted (c .settings) (hostAt c h) (stands h b) m (i .host h b) f (holds-at (SentIn w) (c .slots) k m (x .messages) e))
 
@@ -259,7 +250,7 @@ module _ {c : Cell} {w : World (setup (c .settings))} (x : Explained (c .setting
   after-repeat k Content.Empty e = stayed x
   after-repeat k (Content.One m) e = after-slots _ (holds-placed (SentIn w) (c .slots) m (x .messages) (holds-at (SentIn w) (c .slots) k m (x .messages) e))
 
-  after-restart : (h : ℕ) → restartAtRefusal c h ≡ done → Next (c .settings) w (withHosts c (set (c .hosts) h (restarted (c .settings) (hostAt c h))))
+  after-restart : (h : ℕ) → restartAtRefusal c h ≡ done → Next (c .settings) w (withHost c h (restarted (c .settings) (hostAt c h)))
   unfolding restartAtRefusal stepped sentTo
   after-restart h e =
       let p = host-passed c h _ e in
@@ -276,19 +267,18 @@ module _ {c : Cell} {w : World (setup (c .settings))} (x : Explained (c .setting
   after-event (Restart h) p = after-restart h p
 
 -- a refused event hands back the same cell
-pub explained-event : {s : Settings} {c : Cell} {w : World (setup s)} (e : Event) → Sized c → cellOk c ≡ true → Explained s c w → Next s w (eventOf c e .cell)
-explained-event {s} {c} {w} e z k x =
-    by-outcome (λ (r : Answered). Next s w (r .cell)) c e
-    (λ p. subst (λ s. (w : World (setup s)) → Explained s c w → Next s w (afterOf c e)) (x .settings) (λ w x. after-event x z (cell-in c z k) e p) w x)
+pub explained-event : {s : Settings} {c : Cell} {w : World (setup s)} (e : Event) → Sound c → Explained s c w → Next s w (cellOf (eventOf c e))
+explained-event {s} {c} {w} e o x =
+    by-outcome (λ (r : Answered). Next s w (cellOf r)) c e
+    (λ p. subst (λ s. (w : World (setup s)) → Explained s c w → Next s w (afterOf c e)) (x .settings) (λ w x. after-event x (o .0) (cell-in c (o .0) (o .1)) e p) w x)
     (λ _. stayed x)
 
-pub explained-run : {s : Settings} {c : Cell} {w : World (setup s)} (es : List Event) → Sized c → cellOk c ≡ true → Explained s c w → Next s w (run c es)
+pub explained-run : {s : Settings} {c : Cell} {w : World (setup s)} (es : List Event) → Sound c → Explained s c w → Next s w (run c es)
 unfolding run
-explained-run [] z k x = stayed x
-explained-run {s} {c} (e ∷ es) z k x =
-    let a = explained-event e z k x in
-    let p = kept-event c e z k in
-    let b = explained-run es (p .0) (p .1) (a .explained) in
+explained-run [] o x = stayed x
+explained-run {s} {c} (e ∷ es) o x =
+    let a = explained-event e o x in
+    let b = explained-run es (kept-event c e o) (a .explained) in
     record { now = b .now; reach = reach-then s (b .reach) (a .reach); explained = b .explained }
 
 -- ---- opening
@@ -314,5 +304,5 @@ pub record Opened (c : Cell) : Type 0 where
   pub explained : Explained settings c (M.opened clock)
 
 -- whatever the numbers
-pub explained-opening : (n longest spread clock : ℕ) → Opened (opening n longest spread clock)
+pub explained-opening : (s : Settings) (clock : ℕ) → Opened (opening s clock)
 explained-opening = by-opening Opened (λ s clock e _. record { settings = s; clock = clock; explained = explained-opened s clock e })

@@ -1,15 +1,13 @@
 -- The answer of an event is 0 or a number of its own order, and never 1 where the cell is within its limits. Assumes nothing.
 use mathlib.Core.Path.{_≡_, refl}
 use mathlib.Core.Bool.{Bool, true, false, not, _&&_}
-use mathlib.Core.List.{List, [], _∷_, map, List·Memᴰ, List·Memᴰ·head, List·Memᴰ·tail}
-use Prim.Native.Nat.{ℕ, zero, suc, _+_, _<_}
-use native.Mathlib.Omega.{arith}
+use mathlib.Core.List.{List, [], _∷_, List·Memᴰ, List·Memᴰ·head, List·Memᴰ·tail}
+use Prim.Native.Nat.{ℕ, _+_}
 use lib.Dec.{ltb, leb, eqb}
-use lib.ListN.{getD, take}
-use borrow.Author.Tests.{ltb-true, eqb-true, eqb-false}
+use borrow.Author.Tests.{ltb-true, eqb-false}
 use Rattle.base.specs.Refusals.{done, unless, firstOf, refusedCell, refusedHost, refusedWaiting, refusedSameTick, refusedDuration, refusedSlot, refusedFull, refusedSpread, refusedClock}
 use Rattle.base.specs.Lists.{All}
-use Rattle.base.proofs.Tests.{by-test}
+use Rattle.base.proofs.Tests.{by-test, first-of}
 use Rattle.message.specs.Message.{lastTick}
 use Rattle.rules.specs.Rules.{isWaiting, isFresh}
 use Rattle.state.specs.declared.Settings.{Settings}
@@ -17,24 +15,20 @@ use Rattle.state.specs.Limits.{durationOk}
 use Rattle.host.specs.declared.Host.{Host}
 use Rattle.host.specs.declared.Stepped.{Stepped}
 use Rattle.host.specs.Steps.{hostOk, advanceRefusal, restartRefusal, startRefusal}
-use Rattle.places.specs.Places.{blankHost, clocksOk, advancesRefusal}
 use Rattle.slots.specs.declared.Slot.{Slot}
 use Rattle.slots.specs.declared.Content.{Content}
 use Rattle.slots.specs.Slots.{slotCount, isEmpty, slotRefusal, empties, freed}
 use Rattle.cell.specs.declared.Cell.{Cell}
 use Rattle.cell.specs.declared.Event.{Event}
 use Rattle.cell.specs.declared.Event.the-variants.{AdvanceAll, AdvanceOne, Start, Deliver, Lose, Repeat, Restart}
-use Rattle.cell.specs.Limits.{hostAt, contentAt, cellOk}
-use Rattle.cell.specs.Events.{messagesIn, stepFull, advanceAllRefusal, advancedOne, advanceOneRefusal, startStep, startAtRefusal, deliverStep, deliverFull, deliverRefusal, loseRefusal, repeatRefusal, restartAtRefusal, eventOf}
-use Rattle.cell.proofs.Limits.{Sized, cell-in}
-use Rattle.cell.proofs.Events.{refusalOf, answer-is}
+use Rattle.cell.specs.Limits.{hostAt, contentAt, clocksNear, cellOk}
+use Rattle.cell.specs.Events.{messagesIn, stepFull, advanceAllRefusal, advancedOne, advanceOneRefusal, startStep, startAtRefusal, deliverStep, deliverFull, deliverRefusal, loseRefusal, repeatRefusal, restartAtRefusal, refusalOf, eventOf}
+use Rattle.cell.proofs.Hosts.{Sized, by-advances}
+use Rattle.cell.proofs.Limits.{cell-in}
+use Rattle.cell.proofs.Events.{answer-is}
 use Rattle.agreement.specs.Orders.{orderOf}
 
 -- ---- what holds of each number that a list of refusals may give holds of its answer
-
-first-of : (P : ℕ → Type 0) (k : ℕ) (ks : List ℕ) → P k → (k ≡ done → P (firstOf ks)) → P (firstOf (k ∷ ks))
-unfolding firstOf
-first-of P k ks p f = by-test P (eqb k done) (firstOf ks) k (λ e. f (eqb-true k done e)) (λ _. p)
 
 unless-of : (P : ℕ → Type 0) (b : Bool) (k : ℕ) → P done → P k → P (unless b k)
 unless-of P b k z p = by-test P b done k (λ _. z) (λ _. p)
@@ -56,12 +50,6 @@ next : (P : ℕ → Type 0) (b : Bool) (k : ℕ) (ks : List ℕ) → eqb k done 
 unfolding firstOf
 next P true k ks n p f = f refl
 next P false k ks n p f = rw n p
-
-each-of : (P : ℕ → Type 0) (f : Host → ℕ) (n : ℕ) (hs : List Host) → P done → ((k : ℕ) → k < n → P (f (getD hs k blankHost))) → P (firstOf (map f (take n hs)))
-unfolding firstOf
-each-of P f zero hs z p = z
-each-of P f (suc n) [] z p = z
-each-of P f (suc n) (h ∷ hs) z p = first-of P (f h) (map f (take n hs)) (p zero (omega arith)) (λ _. each-of P f n hs z (λ k b. p (suc k) (omega (arith, b))))
 
 -- ---- the steps of a host within its limits
 
@@ -105,15 +93,15 @@ at-slot : (P : ℕ → Type 0) (c : Cell) (i : ℕ) (ks : List ℕ) → cellOk c
 at-slot P c i ks o p q = held P (cellOk c) refusedCell _ o (next P (ltb i slotCount && not (isEmpty (contentAt c i))) refusedSlot ks refl p (λ _. q))
 
 refusal-number : (P : ℕ → Type 0) (c : Cell) (e : Event) → Sized c → cellOk c ≡ true → All P (done ∷ orderOf e) → P (refusalOf c e)
-unfolding All orderOf refusalOf advanceAllRefusal advancesRefusal advanceOneRefusal startAtRefusal deliverRefusal loseRefusal repeatRefusal restartAtRefusal
+unfolding All orderOf refusalOf advanceAllRefusal advanceOneRefusal startAtRefusal deliverRefusal loseRefusal repeatRefusal restartAtRefusal
 refusal-number P c (AdvanceAll d) z o p =
     held P (cellOk c) refusedCell _ o
     (last-of P _ (p .0)
-    (each-of P (λ h. advanceRefusal (c .settings) h d) (c .settings .n) (c .hosts) (p .0) (λ k b. advance-number P (c .settings) (hostAt c k) d (cell-in c z o .host k b) (p .0) (p .1 .0))))
+    (by-advances c d P (p .0) (λ k b. advance-number P (c .settings) (hostAt c k) d (cell-in c z o .host k b) (p .0) (p .1 .0))))
 refusal-number P c (AdvanceOne h d) z o p =
     at-host P c h _ z o (p .1 .0)
     (λ f. first-of P (advanceRefusal (c .settings) (hostAt c h) d) _ (advance-number P (c .settings) (hostAt c h) d f (p .0) (p .1 .1 .0))
-    (λ _. last-of P _ (p .0) (unless-of P (clocksOk (c .settings) (advancedOne c h d .hosts)) refusedSpread (p .0) (p .1 .1 .1 .0))))
+    (λ _. last-of P _ (p .0) (unless-of P (clocksNear (advancedOne c h d)) refusedSpread (p .0) (p .1 .1 .1 .0))))
 refusal-number P c (Start h d) z o p =
     at-host P c h _ z o (p .1 .0)
     (λ f. first-of P (startRefusal (c .settings) (hostAt c h) d) _ (start-number P (c .settings) (hostAt c h) d f (p .0) (p .1 .1 .0) (p .1 .1 .1 .0) (p .1 .1 .1 .1 .0))

@@ -1,11 +1,16 @@
--- Laws of lists: what holds of each element, one element replaced, and a list from a place on. Assumes nothing.
+-- Laws of lists: what holds of each element, one element replaced, a list from a place on, and a walk that tests each element.
+-- Assumes nothing.
 use mathlib.Core.Path.{_≡_, refl, sym, ap, _∙_}
+use mathlib.Core.Bool.{Bool, true, false}
 use mathlib.Core.List.{List, [], _∷_, map}
-use Prim.Native.Nat.{ℕ, zero, suc, _+_, _<_}
+use Prim.Native.Nat.{ℕ, zero, suc, _+_, _≤_, _<_}
+use native.Mathlib.Nat.{add-zero, not-suc-le-zero, le-of-suc-le-suc}
 use native.Mathlib.Numerals.{add-one}
-use lib.ListN.{length, getD, set, drop, replicate, length-map}
+use native.Mathlib.Omega.{arith}
+use lib.ListN.{length, getD, set, drop, replicate, length-map, drop-of-length-le}
 use lib.Seq.{drop-cons}
-use Rattle.base.specs.Lists.{All}
+use Rattle.base.specs.Lists.{All, every}
+use Rattle.base.proofs.Tests.{both, and-true}
 
 -- ---- what holds of each element
 
@@ -49,3 +54,33 @@ from-place xs i d h = drop-cons xs i d h ∙ ap (λ (k : ℕ). getD xs i d ∷ d
 -- what owning a field that is an array of structs tells of its list
 pub length-mapped : {A B : Type 0} (f : A → B) (l : List A) (n : ℕ) → length (map f l) ≡ n → length l ≡ n
 length-mapped f l n e = sym (length-map l f) ∙ e
+
+-- ---- a walk that tests each element: its next turn, a turn that fails, its end, and what it tells of each place
+
+module _ {A : Type 0} (f : ℕ → A → Bool) (xs : List A) (i : ℕ) (d : A) where
+  pub every-step : i < length xs → f i (getD xs i d) ≡ true → every f i (drop i xs) ≡ every f (i + 1) (drop (i + 1) xs)
+  unfolding every
+  every-step h e = ap (every f i) (from-place xs i d h) ∙ rw (e, add-one i)
+
+  pub every-fault : i < length xs → f i (getD xs i d) ≡ false → every f i (drop i xs) ≡ false
+  unfolding every
+  every-fault h e = ap (every f i) (from-place xs i d h) ∙ rw e
+
+pub every-end : {A : Type 0} (f : ℕ → A → Bool) (xs : List A) (i : ℕ) → length xs ≤ i → every f i (drop i xs) ≡ true
+unfolding every
+every-end f xs i h = rw (drop-of-length-le xs h)
+
+pub every-in : {A : Type 0} (f : ℕ → A → Bool) (i : ℕ) (xs : List A) (d : A) → every f i xs ≡ true → (k : ℕ) → k < length xs → f (i + k) (getD xs k d) ≡ true
+unfolding every
+every-in f i [] d e k b = absurd (not-suc-le-zero b)
+every-in f i (x ∷ xs) d e zero b = rw (add-zero i) (both (f i x) (every f (suc i) xs) e .0)
+every-in f i (x ∷ xs) d e (suc k) b =
+    let g : i + suc k ≡ suc i + k = omega arith in
+    rw g (every-in f (suc i) xs d (both (f i x) (every f (suc i) xs) e .1) k (le-of-suc-le-suc b))
+
+pub out-every : {A : Type 0} (f : ℕ → A → Bool) (i : ℕ) (xs : List A) (d : A) → ((k : ℕ) → k < length xs → f (i + k) (getD xs k d) ≡ true) → every f i xs ≡ true
+unfolding every
+out-every f i [] d p = refl
+out-every f i (x ∷ xs) d p =
+    and-true (f i x) _ (rw (add-zero i) at (p zero (omega arith)))
+    (out-every f (suc i) xs d (λ k b. let g : i + suc k ≡ suc i + k = omega arith in rw g at (p (suc k) (omega (arith, b)))))

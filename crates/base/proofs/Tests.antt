@@ -5,7 +5,7 @@ use mathlib.Core.List.{List, [], _∷_, _++_}
 use Prim.Native.Nat.{ℕ}
 use native.Mathlib.Omega.{arith}
 use lib.Dec.{eqb}
-use borrow.Author.Tests.{eqb-true, eqb-false}
+use borrow.Author.Tests.{eqb-true, eqb-false, ne-eqb}
 use Rattle.base.specs.Refusals.{done, Refusal, allHold, answer, unless, firstOf}
 
 -- a result that a contract gives as x, and a test found to be y
@@ -85,3 +85,21 @@ first-next k ks e = rw e
 pub first-only : (k : ℕ) → firstOf (k ∷ []) ≡ k
 unfolding firstOf
 first-only k = by-test (λ (x : ℕ). x ≡ k) (eqb k done) done k (λ e. sym (eqb-true k done e)) (λ _. refl)
+
+-- what holds of each number that a list of refusals may give holds of its answer
+pub first-of : (P : ℕ → Type 0) (k : ℕ) (ks : List ℕ) → P k → (k ≡ done → P (firstOf ks)) → P (firstOf (k ∷ ks))
+unfolding firstOf
+first-of P k ks p f = by-test P (eqb k done) (firstOf ks) k (λ e. f (eqb-true k done e)) (λ _. p)
+
+-- two lists that begin with the same number
+pub first-same : (k : ℕ) (ks ls : List ℕ) → (k ≡ done → firstOf ks ≡ firstOf ls) → firstOf (k ∷ ks) ≡ firstOf (k ∷ ls)
+unfolding firstOf
+first-same k ks ls f = go (eqb k done) refl
+  where
+    go : (b : Bool) → eqb k done ≡ b → cond b (firstOf ks) k ≡ cond b (firstOf ls) k
+    go true p = f (eqb-true k done p)
+    go false p = refl
+
+pub first-found : (k : ℕ) (ks : List ℕ) → (k ≡ done → ⊥) → firstOf (k ∷ ks) ≡ k
+unfolding firstOf
+first-found k ks n = rw (ne-eqb k done n)

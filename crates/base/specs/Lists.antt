@@ -1,6 +1,13 @@
--- What holds of each element of a list. Assumes nothing.
+-- What holds of each element of a list, as a claim and as a test. Assumes nothing.
+use Prim.Native.Nat.{ℕ, suc}
+use mathlib.Core.Bool.{Bool, true, _&&_}
 use mathlib.Core.List.{List, [], _∷_}
 
 unfoldable pub All : {A : Type 0} → (A → Type 0) → List A → Type 0
 All P [] = Unit
 All P (x ∷ xs) = P x × All P xs
+
+-- each element passes the test of its place, the first of them standing at place i
+unfoldable pub every : {A : Type 0} → (ℕ → A → Bool) → ℕ → List A → Bool
+every f i [] = true
+every f i (x ∷ xs) = f i x && every f (suc i) xs

@@ -1,3 +1,4 @@
+pub mod Hosts
 pub mod Limits
 pub mod Events
-pub mod Methods
+pub mod Kept

@@ -4,18 +4,16 @@ use Prim.Native.Nat.{ℕ}
 use mathlib.Core.Bool.{cond}
 use mathlib.Core.List.{List, [], _∷_}
 use lib.Dec.{ltb, leb, eqb}
-use lib.ListN.{set}
 use Rattle.base.specs.Refusals.{done, unless, firstOf, refusedCell, refusedHost, refusedTick, refusedSpread}
 use Rattle.quorum.specs.Sets.{size}
 use Rattle.message.specs.declared.Message.{Message}
 use Rattle.message.specs.Message.{lastTick, numbersOf}
 use Rattle.state.specs.declared.Settings.{Settings}
 use Rattle.state.specs.Limits.{settingsOk}
-use Rattle.host.specs.declared.Host.{Host}
 use Rattle.host.specs.declared.Sent.{Sent}
 use Rattle.host.specs.declared.Stepped.{Stepped}
 use Rattle.host.specs.Steps.{advanceRefusal, advanced, restartRefusal, restarted, startRefusal, started, acted}
-use Rattle.places.specs.Places.{newHosts, advancesRefusal, advancedHosts, clocksOk}
+use Rattle.places.specs.Places.{newHosts, advancesRefusal, advancedHosts}
 use Rattle.slots.specs.declared.Slot.{Slot}
 use Rattle.slots.specs.declared.Content.{Content}
 use Rattle.slots.specs.Slots.{noMessages, slotRefusal, fullRefusal, placed, placedTo, freed}
@@ -23,19 +21,20 @@ use Rattle.cell.specs.declared.Cell.{Cell}
 use Rattle.cell.specs.declared.Event.{Event}
 use Rattle.cell.specs.declared.Event.the-variants.{AdvanceAll, AdvanceOne, Start, Deliver, Lose, Repeat, Restart}
 use Rattle.cell.specs.declared.Answered.{Answered}
-use Rattle.cell.specs.Limits.{hostAt, contentAt, cellOk}
+use Rattle.cell.specs.Limits.{hostAt, withHost, contentAt, clocksNear, cellOk}
 
 -- ---- parts of an event
 
 abbrev pub answered : ℕ → Cell → Answered
-answered a c = record { answer = a; cell = c }
+answered a c = record { answer = a; settings = c .settings; hosts = c .hosts; slots = c .slots }
+
+-- the cell beside an answer
+abbrev pub cellOf : Answered → Cell
+cellOf a = record { settings = a .settings; hosts = a .hosts; slots = a .slots }
 
 -- what was done where nothing was refused, else what was handed in with the refusal's number
 abbrev pub answerWith : ℕ → Cell → Cell → Answered
 answerWith a c after = cond (eqb a done) (answered done after) (answered a c)
-
-abbrev pub withHosts : Cell → List Host → Cell
-withHosts c hs = record { settings = c .settings; hosts = hs; slots = c .slots }
 
 abbrev pub withSlots : Cell → List Slot → Cell
 withSlots c ss = record { settings = c .settings; hosts = c .hosts; slots = ss }
@@ -60,11 +59,7 @@ sentTo n ss (Sent.One m) receivers = placedTo n ss m receivers
 
 -- a host's step carried into the cell, with these slots
 unfoldable pub stepped : Cell → ℕ → List Slot → Stepped → Cell
-stepped c h ss step = record {
-  settings = c .settings;
-  hosts = set (c .hosts) h (step .host);
-  slots = sentTo (c .settings .n) ss (step .sent) (step .receivers);
-}
+stepped c h ss step = withSlots (withHost c h (step .host)) (sentTo (c .settings .n) ss (step .sent) (step .receivers))
 
 -- ---- opening: 1, 6
 
@@ -88,15 +83,12 @@ unfoldable pub advanceAllRefusal : Cell → ℕ → ℕ
 advanceAllRefusal c d = firstOf (unless (cellOk c) refusedCell ∷ advancesRefusal (c .settings) (c .hosts) d ∷ [])
 
 unfoldable pub advancedAll : Cell → ℕ → Cell
-advancedAll c d = withHosts c (advancedHosts (c .settings) (c .hosts) d)
-
-unfoldable pub advanceAllOf : Cell → ℕ → Answered
-advanceAllOf c d = answerWith (advanceAllRefusal c d) c (advancedAll c d)
+advancedAll c d = record { settings = c .settings; hosts = advancedHosts (c .settings) (c .hosts) d; slots = c .slots }
 
 -- ---- advance one by d: 1, 5, 15, 14
 
 unfoldable pub advancedOne : Cell → ℕ → ℕ → Cell
-advancedOne c h d = withHosts c (set (c .hosts) h (advanced (hostAt c h) d))
+advancedOne c h d = withHost c h (advanced (hostAt c h) d)
 
 unfoldable pub advanceOneRefusal : Cell → ℕ → ℕ → ℕ
 advanceOneRefusal c h d =
@@ -104,12 +96,9 @@ advanceOneRefusal c h d =
     unless (cellOk c) refusedCell
     ∷ hostRefusal c h
     ∷ advanceRefusal (c .settings) (hostAt c h) d
-    ∷ unless (clocksOk (c .settings) (advancedOne c h d .hosts)) refusedSpread
+    ∷ unless (clocksNear (advancedOne c h d)) refusedSpread
     ∷ []
     )
-
-unfoldable pub advanceOneOf : Cell → ℕ → ℕ → Answered
-advanceOneOf c h d = answerWith (advanceOneRefusal c h d) c (advancedOne c h d)
 
 -- ---- start at a host: 1, 5, then the host's own, 9, 11, 10, then 13
 
@@ -125,9 +114,6 @@ startAtRefusal c h d =
     ∷ stepFull (c .slots) (startStep c h d)
     ∷ []
     )
-
-unfoldable pub startAtOf : Cell → ℕ → ℕ → Answered
-startAtOf c h d = answerWith (startAtRefusal c h d) c (stepped c h (c .slots) (startStep c h d))
 
 -- ---- deliver a slot: 1, 12, 13, 'counting the freed slot as empty'
 
@@ -153,16 +139,10 @@ unfoldable pub delivered : Cell → ℕ → Content → Cell
 delivered c i Content.Empty = c
 delivered c i (Content.One m) = stepped c (targetOf m) (freed (c .slots) i) (deliverStep c m)
 
-unfoldable pub deliverOf : Cell → ℕ → Answered
-deliverOf c i = answerWith (deliverRefusal c i) c (delivered c i (contentAt c i))
-
 -- ---- lose a slot: 1, 12
 
 unfoldable pub loseRefusal : Cell → ℕ → ℕ
 loseRefusal c i = firstOf (unless (cellOk c) refusedCell ∷ slotRefusal i (contentAt c i) ∷ [])
-
-unfoldable pub loseOf : Cell → ℕ → Answered
-loseOf c i = answerWith (loseRefusal c i) c (withSlots c (freed (c .slots) i))
 
 -- ---- repeat a slot: 1, 12, 13
 
@@ -174,24 +154,31 @@ unfoldable pub repeated : Cell → Content → Cell
 repeated c Content.Empty = c
 repeated c (Content.One m) = withSlots c (placed (c .slots) m)
 
-unfoldable pub repeatOf : Cell → ℕ → Answered
-repeatOf c i = answerWith (repeatRefusal c i) c (repeated c (contentAt c i))
-
 -- ---- restart a host: 1, 5
 
 unfoldable pub restartAtRefusal : Cell → ℕ → ℕ
 restartAtRefusal c h = firstOf (unless (cellOk c) refusedCell ∷ hostRefusal c h ∷ restartRefusal (c .settings) (hostAt c h) ∷ [])
 
-unfoldable pub restartAtOf : Cell → ℕ → Answered
-restartAtOf c h = answerWith (restartAtRefusal c h) c (withHosts c (set (c .hosts) h (restarted (c .settings) (hostAt c h))))
+-- ---- any event: the number that it is refused by, and the cell where nothing is refused
 
--- ---- any event
+unfoldable pub refusalOf : Cell → Event → ℕ
+refusalOf c (AdvanceAll d) = advanceAllRefusal c d
+refusalOf c (AdvanceOne h d) = advanceOneRefusal c h d
+refusalOf c (Start h d) = startAtRefusal c h d
+refusalOf c (Deliver i) = deliverRefusal c i
+refusalOf c (Lose i) = loseRefusal c i
+refusalOf c (Repeat i) = repeatRefusal c i
+refusalOf c (Restart h) = restartAtRefusal c h
 
+unfoldable pub afterOf : Cell → Event → Cell
+afterOf c (AdvanceAll d) = advancedAll c d
+afterOf c (AdvanceOne h d) = advancedOne c h d
+afterOf c (Start h d) = stepped c h (c .slots) (startStep c h d)
+afterOf c (Deliver i) = delivered c i (contentAt c i)
+afterOf c (Lose i) = withSlots c (freed (c .slots) i)
+afterOf c (Repeat i) = repeated c (contentAt c i)
+afterOf c (Restart h) = withHost c h (restarted (c .settings) (hostAt c h))
+
+-- a refused event changes nothing
 unfoldable pub eventOf : Cell → Event → Answered
-eventOf c (AdvanceAll d) = advanceAllOf c d
-eventOf c (AdvanceOne h d) = advanceOneOf c h d
-eventOf c (Start h d) = startAtOf c h d
-eventOf c (Deliver i) = deliverOf c i
-eventOf c (Lose i) = loseOf c i
-eventOf c (Repeat i) = repeatOf c i
-eventOf c (Restart h) = restartAtOf c h
+eventOf c e = answerWith (refusalOf c e) c (afterOf c e)

@@ -1,4 +1,3 @@
 pub mod Limits
 pub mod Events
-pub mod Parts
 pub mod Runs

@@ -71,7 +71,7 @@ pub fn host_ok(s: Settings, h: Host) -> bool
 }
 
 // This host with an answer, and nothing sent.
-fn refused_with(answer: u8, host: Host) -> Stepped
+pub fn refused_with(answer: u8, host: Host) -> Stepped
     ensures { λ r. ⌜ r ≡ refused answer host ⌝ }
 {
     Stepped {
@@ -89,7 +89,8 @@ fn quiet_with(host: Host) -> Stepped
     refused_with(DONE, host)
 }
 
-fn sending_with(host: Host, m: Message, set: u16) -> Stepped
+// Done, with this message to these hosts.
+pub fn sending_with(host: Host, m: Message, set: u16) -> Stepped
     ensures { λ r. ⌜ r ≡ sending host m set ⌝ }
 {
     Stepped {

@@ -3,12 +3,12 @@
 use crate::cast;
 use crate::show;
 use base::DONE;
-use cell::Cell;
+use cell::Answered;
 use cell::Event;
 
-// A run in hand: its cell, and how many of its events were applied and refused.
+// A run in hand: what its last event gave, and how many of its events were applied and refused.
 struct Played {
-    cell: Cell,
+    now: Answered,
     applied: u64,
     refused: u64,
 }
@@ -38,15 +38,14 @@ fn one_if(on: bool) -> u64 {
 impl Played {
     // One event, and its line.
     fn listed(self, e: Event) -> Played {
-        let before = self.cell;
-        let r = before.apply(e);
-        let cell = r.cell;
-        let hosts = cell.hosts;
-        let applied = sum(self.applied, one_if(r.answer == DONE));
-        let refused = sum(self.refused, one_if(r.answer != DONE));
-        show::event(sum(applied, refused), kind_of(e), r.answer, hosts);
+        let before = self.now;
+        let now = event::apply(before, e);
+        let hosts = now.hosts;
+        let applied = sum(self.applied, one_if(now.answer == DONE));
+        let refused = sum(self.refused, one_if(now.answer != DONE));
+        show::event(sum(applied, refused), kind_of(e), now.answer, hosts);
         Played {
-            cell,
+            now,
             applied,
             refused,
         }
@@ -59,10 +58,9 @@ impl Played {
 }
 
 fn opened() -> Played {
-    let r = cell::open(cast::settings(), 0);
-    let cell = r.cell;
+    let now = cell::open(cast::settings(), 0);
     Played {
-        cell,
+        now,
         applied: 0,
         refused: 0,
     }
@@ -80,40 +78,52 @@ fn asked() -> Played {
 
 // P4: from equal clocks, one host by 5: 0; by 6: 14.
 fn ahead() {
-    let c = opened().cell;
-    show::answer(b"P4 one host by 5", c.advance_one(1, 5).answer);
-    show::answer(b"P4 one host by 6", c.advance_one(1, 6).answer);
+    let a = opened().now;
+    show::answer(
+        b"P4 one host by 5",
+        event::apply(a, Event::AdvanceOne(1, 5)).answer,
+    );
+    show::answer(
+        b"P4 one host by 6",
+        event::apply(a, Event::AdvanceOne(1, 6)).answer,
+    );
 }
 
 // P5: the example's keepers' end is 160; it names until 154, not at 155.
-fn ends(named: Cell) {
+fn ends(named: Answered) {
     let host = named.hosts[1];
     show::accepted(b"P5 host 1 has accepted", host);
-    show::cell_after(b"P5 after 49 ticks", named.advance_all(49));
-    show::cell_after(b"P5 after 50 ticks", named.advance_all(50));
+    show::cell_after(
+        b"P5 after 49 ticks",
+        event::apply(named, Event::AdvanceAll(49)),
+    );
+    show::cell_after(
+        b"P5 after 50 ticks",
+        event::apply(named, Event::AdvanceAll(50)),
+    );
 }
 
 // A slot's message is repeated, and delivered once.
-fn repeated(label: &[u8], c: Cell, slot: u8) -> Cell {
-    let two = c.repeat(slot);
+fn repeated(label: &[u8], a: Answered, slot: u8) -> Answered {
+    let two = event::apply(a, Event::Repeat(slot));
     show::cell_after(label, two);
-    let first = two.cell.deliver(slot);
+    let first = event::apply(two, Event::Deliver(slot));
     show::cell_after(b"  delivered", first);
-    first.cell
+    first
 }
 
 // The copy is delivered to host 1 so many ticks later.
-fn again(c: Cell, ticks: u64, copy: u8) {
-    let second = c.advance_all(ticks).cell.deliver(copy);
+fn again(a: Answered, ticks: u64, copy: u8) {
+    let later = event::apply(a, Event::AdvanceAll(ticks));
+    let second = event::apply(later, Event::Deliver(copy));
     show::cell_after(b"  delivered again", second);
-    let after = second.cell;
-    let host = after.hosts[1];
+    let host = second.hosts[1];
     show::accepted(b"  host 1 has accepted", host);
 }
 
 // A prepare delivered twice: the second sends nothing. A proposal and a learn message delivered twice, the second time a tick before
 // the end that they carry, and at it.
-fn twice(asked: Cell, proposed: Cell, named: Cell) {
+fn twice(asked: Answered, proposed: Answered, named: Answered) {
     again(repeated(b"prepare to host 1 repeated", asked, 1), 1, 3);
     let proposal = repeated(b"proposal to host 1 repeated", proposed, 1);
     again(proposal, 54, 4);
@@ -134,6 +144,6 @@ pub fn play() {
         .listed(Event::Deliver(0))
         .listed(Event::AdvanceAll(50));
     show::counts(last.applied, last.refused);
-    ends(named.cell);
-    twice(asked.cell, proposed.cell, named.cell);
+    ends(named.now);
+    twice(asked.now, proposed.now, named.now);
 }

@@ -1,9 +1,10 @@
--- What the limits of the places tell of each host by its number, and the limits from that; how far apart the clocks are. Assumes nothing.
+-- What the limits of a place and of the state at it tell of a host, and the limits from that; how far apart the clocks are. Assumes
+-- nothing.
 use mathlib.Core.Path.{_≡_, refl, sym}
 use mathlib.Core.Bool.{true, _&&_}
 use mathlib.Core.List.{List, [], _∷_}
 use Prim.Native.Nat.{ℕ, zero, suc, _+_, _≤_, _<_}
-use native.Mathlib.Nat.{add-zero, not-suc-le-zero, le-of-suc-le-suc}
+use native.Mathlib.Nat.{not-suc-le-zero, le-of-suc-le-suc}
 use native.Mathlib.Omega.{arith}
 use lib.Dec.{leb, eqb}
 use lib.ListN.{length, getD, take}
@@ -14,13 +15,17 @@ use Rattle.rules.specs.declared.Promised.{Promised}
 use Rattle.rules.specs.declared.Accepted.{Accepted}
 use Rattle.rules.specs.declared.LastTick.{LastTick}
 use Rattle.rules.specs.declared.Named.{Named}
+use Rattle.message.specs.Message.{lastTick}
 use Rattle.state.specs.declared.Settings.{Settings}
+use Rattle.state.specs.Limits.{settingsOk, stateOk}
 use Rattle.state.specs.declared.Round.{Round}
 use Rattle.state.specs.declared.State.{State}
 use Rattle.host.specs.declared.Host.{Host}
-use Rattle.host.specs.Steps.{hostOk}
+use Rattle.host.specs.Steps.{lastWait, hostOk}
+use Rattle.host.proofs.Limits.{host-in}
+use Rattle.host.proofs.Writable.{out-host}
 use Rattle.state.specs.Blank.{blankState}
-use Rattle.places.specs.Places.{blankHost, noPromise, noLease, noTick, noRound, noHolder, isBlankState, isBlank, placeOk, placesOk, isNear, allNear, clocksOk}
+use Rattle.places.specs.Places.{blankHost, noPromise, noLease, noTick, noRound, noHolder, isBlankState, placeOk, stateAtOk, isNear, allNear, clocksOk}
 
 -- ---- the blank host
 
@@ -65,58 +70,49 @@ blank-state t e =
         → _≡_ {A = State} (record { promised = p; accepted = a; last = l; round = r; named = m }) blankState
     go a b c d f = rw (a, b, c, d, f)
 
-pub blank-host : (h : Host) → isBlank h ≡ true → h ≡ blankHost
-unfolding isBlank
-blank-host h e =
-    let r2 = eqb (h .wait) 0 && isBlankState (h .state) in
-    let p1 = both (eqb (h .number) 0) (eqb (h .clock) 0 && r2) e in
-    let p2 = both (eqb (h .clock) 0) r2 (p1 .1) in
-    let p3 = both (eqb (h .wait) 0) (isBlankState (h .state)) (p2 .1) in
-    go (eqb-true (h .number) 0 (p1 .0)) (eqb-true (h .clock) 0 (p2 .0)) (eqb-true (h .wait) 0 (p3 .0)) (blank-state (h .state) (p3 .1))
+blank-state-is : isBlankState blankState ≡ true
+unfolding isBlankState noPromise noLease noTick noRound noHolder
+blank-state-is = refl
+
+-- ---- one place and the state at it
+
+-- what both tell of the host at place i
+pub own-host : (s : Settings) (i : ℕ) (h : Host) → settingsOk s ≡ true → i < s .n → placeOk s i h ≡ true → stateAtOk s i (h .state) ≡ true
+    → (h .number ≡ i) × (hostOk s h ≡ true)
+unfolding placeOk stateAtOk
+own-host s i h o b e f =
+    let t = lt-ltb i (s .n) b in
+    let p = both (eqb (h .number) i) _ (rw t at e) in
+    let q = both (leb (h .clock) lastTick) (leb (h .wait) lastWait) (p .1) in
+    let own = eqb-true (h .number) i (p .0) in
+    let g : stateOk s i (h .state) ≡ true = rw t at f in
+    (own, out-host s h (record { settings = o; number = omega (arith, own, b); clock = leb-true (h .clock) lastTick (q .0); wait = leb-true (h .wait) lastWait (q .1); state = rw own g }))
+
+pub blank-place : (s : Settings) (i : ℕ) (h : Host) → s .n ≤ i → placeOk s i h ≡ true → stateAtOk s i (h .state) ≡ true → h ≡ blankHost
+unfolding placeOk stateAtOk
+blank-place s i h b e f =
+    let t = le-ltb i (s .n) b in
+    let p = both (eqb (h .number) 0) _ (rw t at e) in
+    let q = both (eqb (h .clock) 0) (eqb (h .wait) 0) (p .1) in
+    go (eqb-true (h .number) 0 (p .0)) (eqb-true (h .clock) 0 (q .0)) (eqb-true (h .wait) 0 (q .1)) (blank-state (h .state) (rw t at f))
   where
     go : {n c w : ℕ} {t : State} → n ≡ 0 → c ≡ 0 → w ≡ 0 → t ≡ blankState → _≡_ {A = Host} (record { number = n; clock = c; wait = w; state = t }) blankHost
     go a b c d = rw (a, b, c, d)
 
-blank-is : isBlank blankHost ≡ true
-unfolding isBlank isBlankState noPromise noLease noTick noRound noHolder
-blank-is = refl
-
--- ---- one place
-
-pub own-place : (s : Settings) (i : ℕ) (h : Host) → i < s .n → placeOk s i h ≡ true → (h .number ≡ i) × (hostOk s h ≡ true)
+pub out-place : (s : Settings) (i : ℕ) (h : Host) → i < s .n → h .number ≡ i → hostOk s h ≡ true → placeOk s i h ≡ true
 unfolding placeOk
-own-place s i h b e =
-    let p = both (eqb (h .number) i) (hostOk s h) (rw (lt-ltb i (s .n) b) at e) in
-    (eqb-true (h .number) i (p .0), p .1)
+out-place s i h b e f =
+    let p = host-in s h f in
+    rw (lt-ltb i (s .n) b)
+    (and-true (eqb (h .number) i) _ (eq-eqb (h .number) i e) (and-true (leb (h .clock) lastTick) _ (le-leb (h .clock) lastTick (p .clock)) (le-leb (h .wait) lastWait (p .wait))))
 
-pub blank-place : (s : Settings) (i : ℕ) (h : Host) → s .n ≤ i → placeOk s i h ≡ true → h ≡ blankHost
-unfolding placeOk
-blank-place s i h b e = blank-host h (rw (le-ltb i (s .n) b) at e)
+pub out-own-state : (s : Settings) (i : ℕ) (h : Host) → i < s .n → h .number ≡ i → hostOk s h ≡ true → stateAtOk s i (h .state) ≡ true
+unfolding stateAtOk
+out-own-state s i h b e f = rw (lt-ltb i (s .n) b, ← e) (host-in s h f .state)
 
-pub out-own : (s : Settings) (i : ℕ) (h : Host) → i < s .n → h .number ≡ i → hostOk s h ≡ true → placeOk s i h ≡ true
-unfolding placeOk
-out-own s i h b e f = rw (lt-ltb i (s .n) b) (and-true (eqb (h .number) i) _ (eq-eqb (h .number) i e) f)
-
-pub out-blank : (s : Settings) (i : ℕ) (h : Host) → s .n ≤ i → h ≡ blankHost → placeOk s i h ≡ true
-unfolding placeOk
-out-blank s i h b e = rw (le-ltb i (s .n) b, e) blank-is
-
--- ---- the places, by number
-
-pub places-in : (s : Settings) (i : ℕ) (hs : List Host) → placesOk s i hs ≡ true → (k : ℕ) → k < length hs → placeOk s (i + k) (getD hs k blankHost) ≡ true
-unfolding placesOk
-places-in s i [] e k b = absurd (not-suc-le-zero b)
-places-in s i (h ∷ hs) e zero b = rw (add-zero i) (both (placeOk s i h) (placesOk s (suc i) hs) e .0)
-places-in s i (h ∷ hs) e (suc k) b =
-    let g : i + suc k ≡ suc i + k = omega arith in
-    rw g (places-in s (suc i) hs (both (placeOk s i h) (placesOk s (suc i) hs) e .1) k (le-of-suc-le-suc b))
-
-pub out-places : (s : Settings) (i : ℕ) (hs : List Host) → ((k : ℕ) → k < length hs → placeOk s (i + k) (getD hs k blankHost) ≡ true) → placesOk s i hs ≡ true
-unfolding placesOk
-out-places s i [] f = refl
-out-places s i (h ∷ hs) f =
-    and-true (placeOk s i h) _ (rw (add-zero i) at (f zero (omega arith)))
-    (out-places s (suc i) hs (λ k b. let g : i + suc k ≡ suc i + k = omega arith in rw g at (f (suc k) (omega (arith, b)))))
+pub out-blank : (s : Settings) (i : ℕ) (h : Host) → s .n ≤ i → h ≡ blankHost → (placeOk s i h ≡ true) × (stateAtOk s i (h .state) ≡ true)
+unfolding placeOk stateAtOk
+out-blank s i h b e = rw (le-ltb i (s .n) b, e) (refl, blank-state-is)
 
 -- ---- the clocks, by number
 

@@ -1,9 +1,8 @@
--- The walks over places, one step at a time: their limits, the span of their clocks, and an advance of all. Assumes nothing.
+-- The walks over places, one step at a time: the span of their clocks, and an advance of all. Assumes nothing.
 use mathlib.Core.Path.{_≡_, refl, sym, ap, _∙_}
 use mathlib.Core.Bool.{Bool, true, false}
 use mathlib.Core.List.{List, _∷_, map}
 use Prim.Native.Nat.{ℕ, _+_, _-_, _≤_, _<_, max, min}
-use native.Mathlib.Numerals.{add-one}
 use native.Mathlib.Omega.{arith}
 use native.Mathlib.Decide.{decLt}
 use lib.Dec.{leb, eqb}
@@ -15,23 +14,8 @@ use Rattle.base.specs.Refusals.{done, firstOf}
 use Rattle.state.specs.declared.Settings.{Settings}
 use Rattle.host.specs.declared.Host.{Host}
 use Rattle.host.specs.Steps.{advanceRefusal}
-use Rattle.places.specs.Places.{blankHost, placeOk, placesOk, clocksOk}
+use Rattle.places.specs.Places.{blankHost, clocksOk}
 use Rattle.places.proofs.Limits.{clocks-in, out-clocks}
-
--- ---- limits
-
-module _ (s : Settings) (hs : List Host) (i : ℕ) (h : i < length hs) where
-  places-step : placeOk s i (getD hs i blankHost) ≡ true → placesOk s i (drop i hs) ≡ placesOk s (i + 1) (drop (i + 1) hs)
-  unfolding placesOk
-  places-step e = ap (placesOk s i) (from-place hs i blankHost h) ∙ rw (e, add-one i)
-
-  places-fault : placeOk s i (getD hs i blankHost) ≡ false → placesOk s i (drop i hs) ≡ false
-  unfolding placesOk
-  places-fault e = ap (placesOk s i) (from-place hs i blankHost h) ∙ rw e
-
-places-end : (s : Settings) (hs : List Host) (i : ℕ) → length hs ≤ i → placesOk s i (drop i hs) ≡ true
-unfolding placesOk
-places-end s hs i h = rw (drop-of-length-le hs h)
 
 -- ---- clocks
 
@@ -101,47 +85,6 @@ span-clocks s hs low high some few p = go (leb (high - low) (s .spread)) refl (c
     go true e false f = sym (near (leb-true (high - low) (s .spread) e)) ∙ f
     go false e true f = sym e ∙ le-leb (high - low) (s .spread) (apart f)
     go false e false f = refl
-
--- ---- one walk over the places: the first i hold what they may, and the clocks of the hosts among them have this span
-
-pub record Seen (s : Settings) (hs : List Host) (i low high : ℕ) : Type 0 where
-  pub places : placesOk s 0 hs ≡ placesOk s i (drop i hs)
-  pub span : Span hs (s .n) (min i (s .n)) low high
-
-pub seen-none : (s : Settings) (hs : List Host) → 1 ≤ s .n → Seen s hs 0 (clockAt hs 0) (clockAt hs 0)
-seen-none s hs some = record { places = refl; span = span-none }
-  where
-    span-none : Span hs (s .n) (min 0 (s .n)) (clockAt hs 0) (clockAt hs 0)
-    span-none = record { from = λ k b. absurd (omega arith); to = λ k b. absurd (omega arith); lowest = 0; lowest-in = some; lowest-is = refl; highest = 0; highest-in = some; highest-is = refl }
-
-module _ (s : Settings) (hs : List Host) (i low high : ℕ) (b : i < length hs) (p : Seen s hs i low high) where
-  pub seen-host : i < s .n → placeOk s i (getD hs i blankHost) ≡ true → Seen s hs (i + 1) (min low (clockAt hs i)) (max high (clockAt hs i))
-  seen-host q e =
-      let here : min i (s .n) ≡ i = omega arith in
-      let next : min (i + 1) (s .n) ≡ i + 1 = omega arith in
-      record { places = p .places ∙ places-step s hs i b e; span = rw next (span-next hs (s .n) i low high q (rw here at (p .span))) }
-
-  pub seen-blank : s .n ≤ i → placeOk s i (getD hs i blankHost) ≡ true → Seen s hs (i + 1) low high
-  seen-blank q e =
-      let same : min (i + 1) (s .n) ≡ min i (s .n) = omega arith in
-      record { places = p .places ∙ places-step s hs i b e; span = rw same (p .span) }
-
-  pub seen-fault : placeOk s i (getD hs i blankHost) ≡ false → placesOk s 0 hs ≡ false
-  seen-fault e = p .places ∙ places-fault s hs i b e
-
--- all of them
-module _ (s : Settings) (hs : List Host) (i low high : ℕ) (all : length hs ≤ i) (some : 1 ≤ s .n) (few : s .n ≤ length hs) (p : Seen s hs i low high) where
-  whole : Span hs (s .n) (s .n) low high
-  whole = let e : min i (s .n) ≡ s .n = omega arith in rw e at (p .span)
-
-  pub seen-places : placesOk s 0 hs ≡ true
-  seen-places = p .places ∙ places-end s hs i all
-
-  pub seen-clocks : leb (high - low) (s .spread) ≡ clocksOk s hs
-  seen-clocks = span-clocks s hs low high some few whole
-
-  pub seen-order : low ≤ high
-  seen-order = span-order hs (s .n) (s .n) low high some whole
 
 -- ---- an advance of all
 

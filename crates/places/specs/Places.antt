@@ -5,7 +5,9 @@ use mathlib.Core.Bool.{Bool, true, false, cond, _&&_}
 use mathlib.Core.List.{List, [], _∷_, map}
 use lib.Dec.{ltb, leb, eqb}
 use lib.ListN.{take}
-use Rattle.base.specs.Refusals.{done, firstOf}
+use Rattle.base.specs.Refusals.{firstOf}
+use Rattle.base.specs.Lists.{every}
+use Rattle.message.specs.Message.{lastTick}
 use Rattle.rules.specs.declared.Promised.{Promised}
 use Rattle.rules.specs.declared.Accepted.{Accepted}
 use Rattle.rules.specs.declared.LastTick.{LastTick}
@@ -14,9 +16,9 @@ use Rattle.state.specs.declared.Settings.{Settings}
 use Rattle.state.specs.declared.Round.{Round}
 use Rattle.state.specs.declared.State.{State}
 use Rattle.host.specs.declared.Host.{Host}
-use Rattle.host.specs.Steps.{hostOk, restarted, advanceRefusal, advanced}
+use Rattle.host.specs.Steps.{lastWait, restarted, advanceRefusal, advanced}
+use Rattle.state.specs.Limits.{stateOk}
 use Rattle.state.specs.Blank.{blankState}
-use Rattle.places.specs.declared.Advanced.{Advanced}
 
 -- ---- what a place holds
 
@@ -48,17 +50,27 @@ noHolder (Named.One k) = false
 unfoldable pub isBlankState : State → Bool
 isBlankState t = noPromise (t .promised) && (noLease (t .accepted) && (noTick (t .last) && (noRound (t .round) && noHolder (t .named))))
 
-unfoldable pub isBlank : Host → Bool
-isBlank h = eqb (h .number) 0 && (eqb (h .clock) 0 && (eqb (h .wait) 0 && isBlankState (h .state)))
+-- ---- limits, of a place and of the state that stands at it, apart
 
--- 'a host's number is not its place', or the host is past its limits; a place at n or above holds the blank host
+-- 'a host's number is not its place', or its clock or its wait is past its limit; at n or above all numbers are 0
 unfoldable pub placeOk : Settings → ℕ → Host → Bool
-placeOk s i h = cond (ltb i (s .n)) (eqb (h .number) i && hostOk s h) (isBlank h)
+placeOk s i h =
+    cond (ltb i (s .n))
+    (eqb (h .number) i && (leb (h .clock) lastTick && leb (h .wait) lastWait))
+    (eqb (h .number) 0 && (eqb (h .clock) 0 && eqb (h .wait) 0))
 
--- from place i on
-unfoldable pub placesOk : Settings → ℕ → List Host → Bool
-placesOk s i [] = true
-placesOk s i (h ∷ hs) = placeOk s i h && placesOk s (suc i) hs
+-- the state of host i is past its limits; at n or above everything is none
+unfoldable pub stateAtOk : Settings → ℕ → State → Bool
+stateAtOk s i t = cond (ltb i (s .n)) (stateOk s i t) (isBlankState t)
+
+abbrev pub ownStateOk : Settings → ℕ → Host → Bool
+ownStateOk s i h = stateAtOk s i (h .state)
+
+unfoldable pub placesOk : Settings → List Host → Bool
+placesOk s hs = every (placeOk s) 0 hs
+
+unfoldable pub statesOk : Settings → List Host → Bool
+statesOk s hs = every (ownStateOk s) 0 hs
 
 -- this clock is at most S above each of these hosts'
 unfoldable pub isNear : ℕ → ℕ → List Host → Bool
@@ -100,7 +112,3 @@ advancesRefusal s hs d = firstOf (map (λ h. advanceRefusal s h d) (take (s .n) 
 
 abbrev pub advancedHosts : Settings → List Host → ℕ → List Host
 advancedHosts s hs d = eachHost (s .n) (λ h. advanced h d) hs
-
-unfoldable pub advancesOf : Settings → List Host → ℕ → Advanced
-advancesOf s hs d =
-    cond (eqb (advancesRefusal s hs d) done) (record { answer = done; hosts = advancedHosts s hs d }) (record { answer = advancesRefusal s hs d; hosts = hs })

@@ -1,14 +1,15 @@
-// The nine places for hosts: whether what they hold is within its limits, how far apart their clocks are, and what opening and an
-// advance of all leave there.
+// The nine places for hosts: whether what they hold is within its limits, how far apart their clocks are, and what opening leaves
+// there.
 ghost use mathlib.Core.Path.{_≡_};
 ghost use mathlib.Core.Bool.{true};
 ghost use Prim.Native.Nat.{_<_, _≤_, _-_, max, min};
 ghost use lib.Dec.{leb};
 ghost use Rattle.message.specs.Message.{lastTick};
 ghost use Rattle.state.specs.Limits.{settingsOk};
-ghost use Rattle.places.specs.Places.{noPromise, noLease, noTick, noRound, noHolder, isBlankState, isBlank, placeOk, clocksOk, newHost, newHosts, advancesOf};
-use base::DONE;
+ghost use Rattle.places.specs.Places.{noPromise, noLease, noTick, noRound, noHolder, isBlankState, placeOk, stateAtOk, placesOk, statesOk, clocksOk, newHost, newHosts};
 use host::Host;
+use host::LAST_WAIT;
+use message::LAST_TICK;
 use rules::Accepted;
 use rules::LastTick;
 use rules::Named;
@@ -19,12 +20,6 @@ use state::State;
 
 // How many places for hosts a cell has: as many as a cell may have hosts.
 pub const PLACES: usize = 9;
-
-// What an advance of all hosts gives: the answer's number and the hosts.
-pub struct Advanced {
-    pub answer: u8,
-    pub hosts: [Host; 9],
-}
 
 fn no_promise(p: Promised) -> bool
     ensures { λ r. ⌜ r ≡ noPromise p ⌝ }
@@ -84,26 +79,59 @@ fn is_blank_state(t: State) -> bool
         & (no_lease(accepted) & (no_tick(last) & (no_round(round) & no_holder(named))))
 }
 
-// Whether all numbers are 0 and everything is none.
-fn is_blank(h: Host) -> bool
-    ensures { λ r. ⌜ r ≡ isBlank h ⌝ }
-{
-    let t = h.state;
-    (h.number == 0) & ((h.clock == 0) & ((h.wait == 0) & is_blank_state(t)))
-}
-
-// Whether place i holds what it may.
+// Whether place i holds a number, a clock and a wait that it may.
 pub fn place_ok(s: Settings, i: usize, h: Host) -> bool
     ensures { λ r. ⌜ r ≡ placeOk s i h ⌝ }
 {
     if i < s.n as usize {
-        return (h.number as usize == i) & host::host_ok(s, h);
+        return (h.number as usize == i) & ((h.clock <= LAST_TICK) & (h.wait <= LAST_WAIT));
     }
-    is_blank(h)
+    (h.number == 0) & ((h.clock == 0) & (h.wait == 0))
+}
+
+// Whether the state at place i is one that it may be.
+pub fn state_at_ok(s: Settings, i: usize, t: State) -> bool
+    ensures { λ r. ⌜ r ≡ stateAtOk s i t ⌝ }
+{
+    if i < s.n as usize {
+        return state::state_ok(s, i as u8, t);
+    }
+    is_blank_state(t)
+}
+
+// The limits of the places, in one walk.
+pub fn places_ok(s: Settings, hosts: [Host; 9]) -> bool
+    ensures { λ r. ⌜ r ≡ placesOk s hosts ⌝ }
+{
+    let mut i: usize = 0;
+    while i < PLACES {
+        let h = hosts[i];
+        if !place_ok(s, i, h) {
+            return false;
+        }
+        i += 1;
+    }
+    true
+}
+
+// The limits of the states, in one walk.
+pub fn states_ok(s: Settings, hosts: [Host; 9]) -> bool
+    ensures { λ r. ⌜ r ≡ statesOk s hosts ⌝ }
+{
+    let mut i: usize = 0;
+    while i < PLACES {
+        let h = hosts[i];
+        let t = h.state;
+        if !state_at_ok(s, i, t) {
+            return false;
+        }
+        i += 1;
+    }
+    true
 }
 
 // The later of two clocks.
-pub fn later_of(a: u64, b: u64) -> u64
+fn later_of(a: u64, b: u64) -> u64
     ensures { λ r. ⌜ r ≡ max a b ⌝ }
 {
     if a < b {
@@ -113,7 +141,7 @@ pub fn later_of(a: u64, b: u64) -> u64
 }
 
 // The earlier of two clocks.
-pub fn earlier_of(a: u64, b: u64) -> u64
+fn earlier_of(a: u64, b: u64) -> u64
     ensures { λ r. ⌜ r ≡ min a b ⌝ }
 {
     if b < a {
@@ -123,7 +151,7 @@ pub fn earlier_of(a: u64, b: u64) -> u64
 }
 
 // Whether the latest clock is at most S past the earliest.
-pub fn spread_ok(s: Settings, low: u64, high: u64) -> bool
+fn spread_ok(s: Settings, low: u64, high: u64) -> bool
     requires { ⌜ low ≤ high ⌝ }
     ensures { λ r. ⌜ r ≡ leb (high - low) (s .spread) ⌝ }
 {
@@ -193,31 +221,4 @@ pub fn new_hosts(s: Settings, clock: u64) -> [Host; 9]
     let h7 = new_host(s, clock, 7);
     let h8 = new_host(s, clock, 8);
     [h0, h1, h2, h3, h4, h5, h6, h7, h8]
-}
-
-// Every host's clock goes up by d; where one host refuses, none moves.
-pub fn advance_hosts(s: Settings, hosts: [Host; 9], d: u64) -> Advanced
-    requires { ⌜ s .n ≤ 9 ⌝ }
-    ensures { λ r. ⌜ r ≡ advancesOf s hosts d ⌝ }
-{
-    let n = s.n as usize;
-    let mut after = Advanced {
-        answer: DONE,
-        hosts,
-    };
-    let mut i: usize = 0;
-    while i < n {
-        let h = hosts[i];
-        let step = h.advance(s, d);
-        if step.answer != DONE {
-            return Advanced {
-                answer: step.answer,
-                hosts,
-            };
-        }
-        let host = step.host;
-        after.hosts[i] = host;
-        i += 1;
-    }
-    after
 }

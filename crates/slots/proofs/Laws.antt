@@ -3,12 +3,12 @@
 use mathlib.Core.Path.{_≡_, refl, _∙_}
 use mathlib.Core.Bool.{Bool, true, false, cond}
 use mathlib.Core.List.{List, [], _∷_}
-use Prim.Native.Nat.{ℕ, zero, suc, _≤_, _<_}
+use Prim.Native.Nat.{ℕ, zero, suc, _+_, _≤_, _<_}
 use native.Mathlib.Omega.{arith}
-use lib.ListN.{length, getD, length-set}
+use lib.ListN.{length, getD, set, length-set}
 use borrow.Author.Tests.{eqb-true, eq-eqb}
 use Rattle.base.specs.Refusals.{done}
-use Rattle.base.specs.Lists.{All}
+use Rattle.base.specs.Lists.{All, every}
 use Rattle.base.proofs.Lists.{all-map, all-set, all-at, all-same}
 use Rattle.base.proofs.Tests.{both}
 use Rattle.message.specs.declared.Message.{Message}
@@ -16,7 +16,8 @@ use Rattle.message.specs.Message.{numbersOf, messageTo}
 use Rattle.message.specs.Faults.{faultOf}
 use Rattle.slots.specs.declared.Content.{Content}
 use Rattle.slots.specs.declared.Slot.{Slot}
-use Rattle.slots.specs.Slots.{slotCount, emptySlot, slotWith, noMessages, isEmpty, contentOk, slotsOk, empties, lowest, placed, placedEach, freed}
+use Rattle.slots.specs.Slots.{slotCount, emptySlot, slotWith, noMessages, isEmpty, contentOk, slotOk, slotsOk, empties, lowest, placed, placedEach, freed}
+use Rattle.slots.specs.Parts.{slotAfter, gained}
 
 -- ---- as many slots
 
@@ -42,6 +43,25 @@ freed-counts (s ∷ ss) (suc i) h = go (isEmpty (s .content)) (freed-counts ss i
     go : (b : Bool) → 1 ≤ empties (freed ss i) → 1 ≤ cond b (suc (empties (freed ss i))) (empties (freed ss i))
     go true p = omega arith
     go false p = p
+
+-- what an event gains of its slot is counted with the empty slots before it
+pub gained-counts : (frees : Bool) (ss : List Slot) (i : ℕ) → i < length ss
+    → empties (set ss i (slotAfter frees (getD ss i emptySlot))) ≡ gained frees (getD ss i emptySlot .content) + empties ss
+unfolding slotAfter empties isEmpty gained
+gained-counts frees [] i h = absurd (omega arith)
+gained-counts frees (s ∷ ss) zero h = go frees (s .content) s refl
+  where
+    go : (b : Bool) (t : Content) (x : Slot) → x .content ≡ t
+        → cond (isEmpty (cond b emptySlot x .content)) (suc (empties ss)) (empties ss) ≡ gained b t + cond (isEmpty t) (suc (empties ss)) (empties ss)
+    go true Content.Empty x e = omega arith
+    go true (Content.One m) x e = omega arith
+    go false Content.Empty x e = rw e (omega arith)
+    go false (Content.One m) x e = rw e (omega arith)
+gained-counts frees (s ∷ ss) (suc i) h = go (isEmpty (s .content)) _ (gained frees (getD ss i emptySlot .content)) _ (gained-counts frees ss i (omega arith))
+  where
+    go : (b : Bool) (x y z : ℕ) → x ≡ y + z → cond b (suc x) x ≡ y + cond b (suc z) z
+    go true x y z e = omega (arith, e)
+    go false x y z e = e
 
 -- ---- what holds of each message under way
 
@@ -105,12 +125,20 @@ unfolding contentOk Carries
 out-content n Content.Empty p = refl
 out-content n (Content.One m) p = eq-eqb (faultOf n (numbersOf m)) done p
 
+slots-from : (n i : ℕ) (ss : List Slot) → every (slotOk n) i ss ≡ true → Holds (Sendable n) ss
+unfolding every Holds All
+slots-from n i [] e = tt
+slots-from n i (s ∷ ss) e = let p = both (contentOk n (s .content)) (every (slotOk n) (suc i) ss) e in (content-in n (s .content) (p .0), slots-from n (suc i) ss (p .1))
+
 pub slots-in : (n : ℕ) (ss : List Slot) → slotsOk n ss ≡ true → Holds (Sendable n) ss
-unfolding slotsOk Holds All
-slots-in n [] e = tt
-slots-in n (s ∷ ss) e = let p = both (contentOk n (s .content)) (slotsOk n ss) e in (content-in n (s .content) (p .0), slots-in n ss (p .1))
+unfolding slotsOk
+slots-in n ss e = slots-from n 0 ss e
+
+out-from : (n i : ℕ) (ss : List Slot) → Holds (Sendable n) ss → every (slotOk n) i ss ≡ true
+unfolding every Holds All
+out-from n i [] p = refl
+out-from n i (s ∷ ss) p = rw (out-content n (s .content) (p .0)) (out-from n (suc i) ss (p .1))
 
 pub out-slots : (n : ℕ) (ss : List Slot) → Holds (Sendable n) ss → slotsOk n ss ≡ true
-unfolding slotsOk Holds All
-out-slots n [] p = refl
-out-slots n (s ∷ ss) p = rw (out-content n (s .content) (p .0)) (out-slots n ss (p .1))
+unfolding slotsOk
+out-slots n ss p = out-from n 0 ss p

@@ -8,34 +8,30 @@ use native.Mathlib.Nat.{sub-zero}
 use native.Mathlib.Numerals.{add-one}
 use native.Mathlib.Omega.{arith}
 use lib.ListN.{length, getD, set, drop, length-set, drop-of-length-le}
-use lib.Seq.{set-out}
+use lib.Seq.{set-out, set-getD}
 use Rattle.base.proofs.Lists.{from-place}
+use Rattle.base.proofs.Tests.{by-test}
 use Rattle.quorum.specs.Sets.{isIn, membersFrom, members}
 use Rattle.quorum.proofs.Laws.{members-step}
 use Rattle.message.specs.declared.Message.{Message}
 use Rattle.message.specs.Message.{messageTo}
 use Rattle.slots.specs.declared.Slot.{Slot}
-use Rattle.slots.specs.Slots.{slotCount, emptySlot, slotWith, isEmpty, contentOk, slotsOk, empties, lowest, placed, placedEach}
+use Rattle.slots.specs.declared.Turn.{Turn}
+use Rattle.slots.specs.Slots.{slotCount, emptySlot, slotWith, isEmpty, empties, lowest, placed, placedEach}
+use Rattle.slots.specs.Parts.{counted, turn}
 
 module _ (ss : List Slot) (i : ℕ) (h : i < length ss) where
   split : drop i ss ≡ getD ss i emptySlot ∷ drop (i + 1) ss
   split = from-place ss i emptySlot h
 
-  pub ok-step : (n : ℕ) → contentOk n (getD ss i emptySlot .content) ≡ true → slotsOk n (drop i ss) ≡ slotsOk n (drop (i + 1) ss)
-  unfolding slotsOk
-  ok-step n e = ap (slotsOk n) split ∙ rw e
-
-  pub ok-fault : (n : ℕ) → contentOk n (getD ss i emptySlot .content) ≡ false → slotsOk n (drop i ss) ≡ false
-  unfolding slotsOk
-  ok-fault n e = ap (slotsOk n) split ∙ rw e
-
-  pub empties-one : isEmpty (getD ss i emptySlot .content) ≡ true → empties (drop i ss) ≡ suc (empties (drop (i + 1) ss))
-  unfolding empties
-  empties-one e = ap empties split ∙ rw e
-
-  pub empties-none : isEmpty (getD ss i emptySlot .content) ≡ false → empties (drop i ss) ≡ empties (drop (i + 1) ss)
-  unfolding empties
-  empties-none e = ap empties split ∙ rw e
+  -- a turn of the walk that counts
+  pub counted-turn : (count : ℕ) → counted count (getD ss i emptySlot) + empties (drop (i + 1) ss) ≡ count + empties (drop i ss)
+  unfolding counted empties
+  counted-turn count = rw split (go (isEmpty (getD ss i emptySlot .content)))
+    where
+      go : (b : Bool) → cond b (suc count) count + empties (drop (i + 1) ss) ≡ count + cond b (suc (empties (drop (i + 1) ss))) (empties (drop (i + 1) ss))
+      go true = omega arith
+      go false = refl
 
   lowest-here : isEmpty (getD ss i emptySlot .content) ≡ true → lowest (drop i ss) ≡ 0
   unfolding lowest
@@ -46,10 +42,6 @@ module _ (ss : List Slot) (i : ℕ) (h : i < length ss) where
   lowest-later e = ap lowest split ∙ rw e
 
 -- past the last slot
-pub ok-end : (n : ℕ) (ss : List Slot) (i : ℕ) → length ss ≤ i → slotsOk n (drop i ss) ≡ true
-unfolding slotsOk
-ok-end n ss i h = rw (drop-of-length-le ss h)
-
 pub empties-end : (ss : List Slot) (i : ℕ) → length ss ≤ i → empties (drop i ss) ≡ 0
 unfolding empties
 empties-end ss i h = rw (drop-of-length-le ss h)
@@ -85,15 +77,15 @@ placed-each-full ss m (k ∷ hs) h = rw (set-out ss (lowest ss) (slotWith (messa
 
 -- a host that is a receiver has its turn, and one that is none has not
 module _ (ss : List Slot) (m : Message) (receivers h n : ℕ) (b : h < n) where
-  turn : (x : Bool) → isIn receivers h ≡ x → membersFrom receivers h (n - h) ≡ cond x (h ∷ membersFrom receivers (h + 1) (n - (h + 1))) (membersFrom receivers (h + 1) (n - (h + 1)))
-  turn x e = members-step receivers h n b ∙ ap (λ (y : Bool). cond y (h ∷ membersFrom receivers (h + 1) (n - (h + 1))) (membersFrom receivers (h + 1) (n - (h + 1)))) e
+  next : (x : Bool) → isIn receivers h ≡ x → membersFrom receivers h (n - h) ≡ cond x (h ∷ membersFrom receivers (h + 1) (n - (h + 1))) (membersFrom receivers (h + 1) (n - (h + 1)))
+  next x e = members-step receivers h n b ∙ ap (λ (y : Bool). cond y (h ∷ membersFrom receivers (h + 1) (n - (h + 1))) (membersFrom receivers (h + 1) (n - (h + 1)))) e
 
   placed-turn : isIn receivers h ≡ true → placedEach ss m (membersFrom receivers h (n - h)) ≡ placedEach (placed ss (messageTo m h)) m (membersFrom receivers (h + 1) (n - (h + 1)))
   unfolding placedEach
-  placed-turn e = ap (placedEach ss m) (turn true e)
+  placed-turn e = ap (placedEach ss m) (next true e)
 
   placed-skip : isIn receivers h ≡ false → placedEach ss m (membersFrom receivers h (n - h)) ≡ placedEach ss m (membersFrom receivers (h + 1) (n - (h + 1)))
-  placed-skip e = ap (placedEach ss m) (turn false e)
+  placed-skip e = ap (placedEach ss m) (next false e)
 
 -- ---- the walk that places: the hosts below h have had their turn, and the slots below i are taken
 
@@ -108,26 +100,39 @@ pub placing-first : (n receivers : ℕ) (m : Message) (ss : List Slot) → lengt
 placing-first n receivers m ss e = record { hosts = omega arith; places = omega arith; long = e; taken = omega arith; rest = simp sub-zero }
 
 module _ {n receivers : ℕ} {m : Message} {start ss : List Slot} {h i : ℕ} (p : Placing n receivers m start ss h i) where
-  -- a host that is no receiver
-  pub placing-skip : h < n → isIn receivers h ≡ false → Placing n receivers m start ss (h + 1) i
-  placing-skip b e = record { hosts = omega arith; places = p .places; long = p .long; taken = p .taken; rest = sym (placed-skip ss m receivers h n b e) ∙ p .rest }
+  abbrev pub WalksOn : Turn → Type 0
+  WalksOn t = Placing n receivers m start (set ss i (t .slot)) (t .host) (t .at) × ((n - t .host) + (slotCount - t .at) < (n - h) + (slotCount - i))
 
-  -- a slot that is taken
-  pub placing-on : i < slotCount → isEmpty (getD ss i emptySlot .content) ≡ false → Placing n receivers m start ss h (i + 1)
-  placing-on b e = record { hosts = p .hosts; places = omega arith; long = p .long; taken = omega (arith, p .taken, lowest-later ss i (omega arith) e); rest = p .rest }
+  -- a turn of the walk that places goes on with it, and it ends
+  pub placing-turn : h < n → i < slotCount → WalksOn (turn m receivers h i (getD ss i emptySlot))
+  unfolding turn
+  placing-turn b c =
+      by-test WalksOn _ _ _
+      (λ e. by-test WalksOn _ _ _ (λ f. (fill e f, omega arith)) (λ f. (rw (set-getD ss i emptySlot) (on f), omega arith)))
+      (λ e. (rw (set-getD ss i emptySlot) (skip e), omega arith))
+    where
+      here : i < length ss
+      here = omega (arith, p .long)
 
-  -- a receiver's message goes into a slot that is empty
-  pub placing-fill : (x : Message) → h < n → i < slotCount → isIn receivers h ≡ true → isEmpty (getD ss i emptySlot .content) ≡ true → x ≡ messageTo m h → Placing n receivers m start (set ss i (slotWith x)) (h + 1) (i + 1)
-  placing-fill x b c e f q =
-      let t : i < length ss = omega arith in
-      let low : lowest ss ≡ i = omega (arith, p .taken, lowest-here ss i t f) in
-      record {
-        hosts = omega arith;
-        places = omega arith;
-        long = length-set ss i (slotWith x) ∙ p .long;
-        taken = lowest-filled ss i x t low;
-        rest = rw (q, ← placed-here ss i (messageTo m h) low) (sym (placed-turn ss m receivers h n b e) ∙ p .rest);
-      }
+      -- a host that is no receiver
+      skip : isIn receivers h ≡ false → Placing n receivers m start ss (h + 1) i
+      skip e = record { hosts = omega arith; places = p .places; long = p .long; taken = p .taken; rest = sym (placed-skip ss m receivers h n b e) ∙ p .rest }
+
+      -- a slot that is taken
+      on : isEmpty (getD ss i emptySlot .content) ≡ false → Placing n receivers m start ss h (i + 1)
+      on e = record { hosts = p .hosts; places = omega arith; long = p .long; taken = omega (arith, p .taken, lowest-later ss i here e); rest = p .rest }
+
+      -- a receiver's message goes into a slot that is empty
+      fill : isIn receivers h ≡ true → isEmpty (getD ss i emptySlot .content) ≡ true → Placing n receivers m start (set ss i (slotWith (messageTo m h))) (h + 1) (i + 1)
+      fill e f =
+          let low : lowest ss ≡ i = omega (arith, p .taken, lowest-here ss i here f) in
+          record {
+            hosts = omega arith;
+            places = omega arith;
+            long = length-set ss i (slotWith (messageTo m h)) ∙ p .long;
+            taken = lowest-filled ss i (messageTo m h) here low;
+            rest = rw (← placed-here ss i (messageTo m h) low) (sym (placed-turn ss m receivers h n b e) ∙ p .rest);
+          }
 
   -- where the hosts or the slots end
   pub placing-last : (n ≤ h) ⊎ (slotCount ≤ i) → ss ≡ placedEach start m (members n receivers)

@@ -5,13 +5,13 @@ use mathlib.Core.List.{List, [], _∷_}
 use lib.Dec.{ltb, leb, eqb}
 use lib.ListN.{set, replicate}
 use Rattle.base.specs.Refusals.{done, unless, refusedSlot, refusedFull}
-use Rattle.quorum.specs.Sets.{size, members}
+use Rattle.base.specs.Lists.{every}
+use Rattle.quorum.specs.Sets.{members}
 use Rattle.message.specs.declared.Message.{Message}
 use Rattle.message.specs.Message.{numbersOf, messageTo}
 use Rattle.message.specs.Faults.{faultOf}
 use Rattle.slots.specs.declared.Content.{Content}
 use Rattle.slots.specs.declared.Slot.{Slot}
-use Rattle.slots.specs.declared.Placed.{Placed}
 
 abbrev pub slotCount : ℕ
 slotCount = 96
@@ -37,9 +37,11 @@ unfoldable pub contentOk : ℕ → Content → Bool
 contentOk n Content.Empty = true
 contentOk n (Content.One m) = eqb (faultOf n (numbersOf m)) done
 
+abbrev pub slotOk : ℕ → ℕ → Slot → Bool
+slotOk n i s = contentOk n (s .content)
+
 unfoldable pub slotsOk : ℕ → List Slot → Bool
-slotsOk n [] = true
-slotsOk n (s ∷ ss) = contentOk n (s .content) && slotsOk n ss
+slotsOk n ss = every (slotOk n) 0 ss
 
 -- 12: 'slot 96 or more, or empty'
 abbrev pub slotRefusal : ℕ → Content → ℕ
@@ -73,11 +75,6 @@ placedEach ss m (h ∷ hs) = placedEach (placed ss (messageTo m h)) m hs
 -- 'receivers in rising order'
 abbrev pub placedTo : ℕ → List Slot → Message → ℕ → List Slot
 placedTo n ss m receivers = placedEach ss m (members n receivers)
-
--- what placing to a set gives: 13 and the same slots where there are too few empty ones
-unfoldable pub placeOf : ℕ → List Slot → Message → ℕ → Placed
-placeOf n ss m receivers =
-    cond (leb (size receivers) (empties ss)) (record { answer = done; slots = placedTo n ss m receivers }) (record { answer = refusedFull; slots = ss })
 
 -- a slot is emptied: it then equals one that was never used
 abbrev pub freed : List Slot → ℕ → List Slot

@@ -1,10 +1,10 @@
-// The messages under way: 96 slots, each empty or holding one message. Whether a slot is within its limits, and placing a
-// message to a set of receivers.
+// The messages under way: 96 slots, each empty or holding one message. Whether they are within their limits, what an event leaves of
+// the slot that it is about, and a turn of each of the two walks that count empty slots and place a message to a set of receivers.
 ghost use mathlib.Core.Path.{_≡_};
-ghost use Prim.Native.Nat.{_≤_};
-ghost use Rattle.slots.specs.Slots.{isEmpty, contentOk, noMessages, placeOf};
+ghost use Prim.Native.Nat.{_<_};
+ghost use Rattle.slots.specs.Slots.{isEmpty, contentOk, slotsOk, noMessages};
+ghost use Rattle.slots.specs.Parts.{slotAfter, gained, counted, turn};
 use base::DONE;
-use base::REFUSED_FULL;
 use message::Message;
 
 // How many slots a cell has.
@@ -20,10 +20,11 @@ pub struct Slot {
     pub content: Content,
 }
 
-// What placing gives: the answer's number and the slots.
-pub struct Placed {
-    pub answer: u8,
-    pub slots: [Slot; 96],
+// What a turn of the walk that places leaves: what its slot holds, whose turn it is next, and which slot's.
+pub struct Turn {
+    pub slot: Slot,
+    pub host: u8,
+    pub at: usize,
 }
 
 pub fn is_empty(c: Content) -> bool
@@ -55,48 +56,85 @@ pub fn no_messages() -> [Slot; 96]
     [s; 96]
 }
 
-// Places a message to each host of a set below n, in rising order: 13 where there are too few empty slots, and then none is placed.
-pub fn place(slots: [Slot; 96], n: u8, m: Message, receivers: u16) -> Placed
-    requires { ⌜ n ≤ 16 ⌝ }
-    ensures { λ r. ⌜ r ≡ placeOf n slots m receivers ⌝ }
+// The limits of the slots, in one walk.
+pub fn slots_ok(n: u8, slots: [Slot; 96]) -> bool
+    ensures { λ r. ⌜ r ≡ slotsOk n slots ⌝ }
 {
-    let f = message::numbers_of(m);
-    let mut after = Placed {
-        answer: DONE,
-        slots,
-    };
-    // How many slots are empty.
-    let mut k: usize = 0;
-    let mut count: usize = 0;
-    while k < SLOTS {
-        let s = after.slots[k];
-        let c = s.content;
-        if is_empty(c) {
-            count += 1;
-        }
-        k += 1;
-    }
-    if count < quorum::count(receivers) as usize {
-        after.answer = REFUSED_FULL;
-        return after;
-    }
-    // One walk for all receivers: the slots below i are taken.
-    let mut h: u8 = 0;
     let mut i: usize = 0;
-    while (h < n) & (i < SLOTS) {
-        if quorum::has(receivers, h) {
-            let held = after.slots[i];
-            let content = held.content;
-            if is_empty(content) {
-                after.slots[i] = Slot {
-                    content: Content::One(message::message_of(message::with_target(f, h))),
-                };
-                h += 1;
-            }
-            i += 1;
-        } else {
-            h += 1;
+    while i < SLOTS {
+        let held = slots[i];
+        let content = held.content;
+        if !content_ok(n, content) {
+            return false;
         }
+        i += 1;
     }
-    after
+    true
+}
+
+// A slot that an event frees, or leaves as it is.
+pub fn slot_after(frees: bool, held: Slot) -> Slot
+    ensures { λ r. ⌜ r ≡ slotAfter frees held ⌝ }
+{
+    if frees {
+        return Slot {
+            content: Content::Empty,
+        };
+    }
+    held
+}
+
+// How many more slots are empty then: a freed one counts for 13.
+pub fn gained_by(frees: bool, content: Content) -> usize
+    ensures { λ r. ⌜ r ≡ gained frees content ⌝ }
+{
+    if is_empty(content) {
+        return 0;
+    }
+    if frees {
+        return 1;
+    }
+    0
+}
+
+// One empty slot more, where this one is.
+pub fn counted_with(count: usize, held: Slot) -> usize
+    requires { ⌜ count < 18446744073709551615 ⌝ }
+    ensures { λ r. ⌜ r ≡ counted count held ⌝ }
+{
+    let content = held.content;
+    if is_empty(content) {
+        return count + 1;
+    }
+    count
+}
+
+// Host h and slot j have their turn: a host that is no receiver is passed over, and so is a slot that is taken.
+pub fn turn_of(m: Message, receivers: u16, h: u8, j: usize, held: Slot) -> Turn
+    requires { ⌜ (h < 16) × (j < 96) ⌝ }
+    ensures { λ r. ⌜ r ≡ turn m receivers h j held ⌝ }
+{
+    if !quorum::has(receivers, h) {
+        return Turn {
+            slot: held,
+            host: h + 1,
+            at: j,
+        };
+    }
+    let content = held.content;
+    if !is_empty(content) {
+        return Turn {
+            slot: held,
+            host: h,
+            at: j + 1,
+        };
+    }
+    let addressed = message::message_of(message::with_target(message::numbers_of(m), h));
+    Turn {
+        slot: Slot {
+            content: Content::One(addressed),
+        },
+        host: h + 1,
+        at: j + 1,
+    }
 }

@@ -1,0 +1,94 @@
+-- The hosts of a cell by their number: one of them replaced, all of them advanced, and their clocks. Proofs above this file speak of hosts
+-- by `hostAt` and `withHost` alone. Assumes nothing.
+use mathlib.Core.Path.{_≡_, refl, _∙_}
+use mathlib.Core.Bool.{true}
+use mathlib.Core.List.{List, [], _∷_, map}
+use Prim.Native.Nat.{ℕ, zero, suc, _+_, _≤_, _<_}
+use native.Mathlib.Nat.{not-suc-le-zero, le-of-suc-le-suc}
+use native.Mathlib.Omega.{arith}
+use lib.ListN.{length, getD, take, length-set}
+use lib.Seq.{getD-set-same}
+use Rattle.base.specs.Refusals.{done, firstOf}
+use Rattle.base.proofs.Lists.{by-place}
+use Rattle.base.proofs.Tests.{first-passed, first-of}
+use Rattle.state.specs.Limits.{settingsOk}
+use Rattle.host.specs.declared.Host.{Host}
+use Rattle.host.specs.Steps.{advanceRefusal, advanced}
+use Rattle.host.proofs.Limits.{settings-in}
+use Rattle.places.specs.Places.{blankHost, advancesRefusal}
+use Rattle.places.proofs.Limits.{clocks-in, out-clocks}
+use Rattle.places.proofs.Each.{length-each, each-below, each-above}
+use Rattle.cell.specs.declared.Cell.{Cell}
+use Rattle.cell.specs.Limits.{hostAt, withHost, clocksNear}
+use Rattle.cell.specs.Events.{advancedAll}
+
+-- nine places and 96 slots
+pub record Sized (c : Cell) : Type 0 where
+  pub hosts : length (c .hosts) ≡ 9
+  pub slots : length (c .slots) ≡ 96
+
+-- ---- one host replaced
+
+module _ (c : Cell) (h : ℕ) (x : Host) where
+  pub sized-host : Sized c → Sized (withHost c h x)
+  sized-host z = record { hosts = length-set (c .hosts) h x ∙ z .hosts; slots = z .slots }
+
+  pub host-same : Sized c → h < 9 → hostAt (withHost c h x) h ≡ x
+  host-same z b = getD-set-same (c .hosts) h x blankHost (omega (arith, z .hosts))
+
+  -- what holds of the new host under its number, and of the old host of a number, holds of the host of that number now
+  pub by-host : (P : Host → Type 0) (k : ℕ) → (k ≡ h → P x) → P (hostAt c k) → P (hostAt (withHost c h x) k)
+  by-host P k p q = by-place P (c .hosts) h x k blankHost p q
+
+  pub host-other : (k : ℕ) → (k ≡ h → ⊥) → hostAt (withHost c h x) k ≡ hostAt c k
+  host-other k d = by-host (λ (y : Host). y ≡ hostAt c k) k (λ e. absurd (d e)) refl
+
+-- ---- all hosts advanced
+
+first-each : (f : Host → ℕ) (n : ℕ) (hs : List Host) → firstOf (map f (take n hs)) ≡ done → (k : ℕ) → k < n → k < length hs → f (getD hs k blankHost) ≡ done
+first-each f zero hs e k a b = absurd (not-suc-le-zero a)
+first-each f (suc n) [] e k a b = absurd (not-suc-le-zero b)
+first-each f (suc n) (h ∷ hs) e zero a b = first-passed (f h) (map f (take n hs)) e .0
+first-each f (suc n) (h ∷ hs) e (suc k) a b = first-each f n hs (first-passed (f h) (map f (take n hs)) e .1) k (le-of-suc-le-suc a) (le-of-suc-le-suc b)
+
+each-of : (P : ℕ → Type 0) (f : Host → ℕ) (n : ℕ) (hs : List Host) → P done → ((k : ℕ) → k < n → P (f (getD hs k blankHost))) → P (firstOf (map f (take n hs)))
+unfolding firstOf
+each-of P f zero hs z p = z
+each-of P f (suc n) [] z p = z
+each-of P f (suc n) (h ∷ hs) z p = first-of P (f h) (map f (take n hs)) (p zero (omega arith)) (λ _. each-of P f n hs z (λ k b. p (suc k) (omega (arith, b))))
+
+module _ (c : Cell) (d : ℕ) where
+  pub sized-all : Sized c → Sized (advancedAll c d)
+  unfolding advancedAll
+  sized-all z = record { hosts = length-each (c .settings .n) (λ h. advanced h d) (c .hosts) ∙ z .hosts; slots = z .slots }
+
+  pub all-below : Sized c → c .settings .n ≤ 9 → (k : ℕ) → k < c .settings .n → hostAt (advancedAll c d) k ≡ advanced (hostAt c k) d
+  unfolding advancedAll
+  all-below z few k b = each-below (c .settings .n) (λ h. advanced h d) (c .hosts) k blankHost b (omega (arith, z .hosts))
+
+  pub all-above : (k : ℕ) → c .settings .n ≤ k → hostAt (advancedAll c d) k ≡ hostAt c k
+  unfolding advancedAll
+  all-above k b = each-above (c .settings .n) (λ h. advanced h d) (c .hosts) k blankHost b
+
+  -- where an advance of all is not refused, no host refuses it
+  pub all-passed : Sized c → c .settings .n ≤ 9 → advancesRefusal (c .settings) (c .hosts) d ≡ done → (k : ℕ) → k < c .settings .n → advanceRefusal (c .settings) (hostAt c k) d ≡ done
+  unfolding advancesRefusal
+  all-passed z few e k b = first-each (λ h. advanceRefusal (c .settings) h d) (c .settings .n) (c .hosts) e k b (omega (arith, z .hosts))
+
+  -- what holds of each host's number holds of the number that it is refused by
+  pub by-advances : (P : ℕ → Type 0) → P done → ((k : ℕ) → k < c .settings .n → P (advanceRefusal (c .settings) (hostAt c k) d)) → P (advancesRefusal (c .settings) (c .hosts) d)
+  unfolding advancesRefusal
+  by-advances P z p = each-of P (λ h. advanceRefusal (c .settings) h d) (c .settings .n) (c .hosts) z p
+
+-- ---- clocks
+
+module _ (c : Cell) (z : Sized c) (o : settingsOk (c .settings) ≡ true) where
+  -- n is at most the number of places
+  within : c .settings .n ≤ length (c .hosts)
+  within = omega (arith, z .hosts, settings-in (c .settings) o .few)
+
+  pub near-in : clocksNear c ≡ true → (h k : ℕ) → h < c .settings .n → k < c .settings .n → hostAt c h .clock ≤ hostAt c k .clock + c .settings .spread
+  near-in e = clocks-in (c .settings) (c .hosts) within e
+
+  pub out-near : ((h k : ℕ) → h < c .settings .n → k < c .settings .n → hostAt c h .clock ≤ hostAt c k .clock + c .settings .spread) → clocksNear c ≡ true
+  out-near f = out-clocks (c .settings) (c .hosts) within f

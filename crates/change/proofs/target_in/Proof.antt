@@ -1,0 +1,13 @@
+use borrow.Author.Needs.{needs}
+use Rattle.change.proofs.target_in.Statement.{statement}
+use Rattle.change.proofs.target_in.Tie as tie
+
+pub target-in-spec : {M : Type 1} → statement M
+target-in-spec =
+    tie.close
+    (tie.spec
+    (λ c. search needs)
+    (λ c. search needs)
+    (λ c κs. search needs)
+    (λ c. search needs)
+    (λ c. rw (c .numbers-of .ensures, c .before .before .content .given .1)))

@@ -1,0 +1,89 @@
+-- What an event is about, and the change that it makes, in the shape of the code: found from the one host and the one slot that it is
+-- about. No claim rests on it: event/proofs/Changes ties it to the tables of cell/specs/Events. Assumes nothing.
+use Prim.Native.Nat.{ℕ}
+use mathlib.Core.Bool.{Bool, true, false}
+use Rattle.base.specs.Refusals.{refusedSlot}
+use Rattle.quorum.specs.Sets.{single}
+use Rattle.state.specs.declared.Settings.{Settings}
+use Rattle.host.specs.declared.Host.{Host}
+use Rattle.host.specs.declared.Stepped.{Stepped}
+use Rattle.host.specs.Steps.{refused, quiet, sending, advanceOf, restartOf, startOf, messageStep}
+use Rattle.slots.specs.declared.Content.{Content}
+use Rattle.cell.specs.declared.Event.{Event}
+use Rattle.cell.specs.declared.Event.the-variants.{AdvanceAll, AdvanceOne, Start, Deliver, Lose, Repeat, Restart}
+use Rattle.cell.specs.Events.{targetOf}
+use Rattle.change.specs.declared.Change.{Change}
+
+-- ---- what an event is about
+
+abbrev pub isAll : Event → Bool
+isAll (AdvanceAll d) = true
+isAll (AdvanceOne h d) = false
+isAll (Start h d) = false
+isAll (Deliver i) = false
+isAll (Lose i) = false
+isAll (Repeat i) = false
+isAll (Restart h) = false
+
+abbrev pub ticksOf : Event → ℕ
+ticksOf (AdvanceAll d) = d
+ticksOf (AdvanceOne h d) = d
+ticksOf (Start h d) = 0
+ticksOf (Deliver i) = 0
+ticksOf (Lose i) = 0
+ticksOf (Repeat i) = 0
+ticksOf (Restart h) = 0
+
+-- the slot, or slot 0, which then stays
+abbrev pub slotOf : Event → ℕ
+slotOf (AdvanceAll d) = 0
+slotOf (AdvanceOne h d) = 0
+slotOf (Start h d) = 0
+slotOf (Deliver i) = i
+slotOf (Lose i) = i
+slotOf (Repeat i) = i
+slotOf (Restart h) = 0
+
+abbrev pub targetIn : Content → ℕ
+targetIn Content.Empty = 0
+targetIn (Content.One m) = targetOf m
+
+-- the host, or host 0, which then stays
+abbrev pub hostOf : Event → Content → ℕ
+hostOf (AdvanceAll d) t = 0
+hostOf (AdvanceOne h d) t = h
+hostOf (Start h d) t = h
+hostOf (Deliver i) t = targetIn t
+hostOf (Lose i) t = 0
+hostOf (Repeat i) t = 0
+hostOf (Restart h) t = h
+
+-- ---- the change
+
+abbrev pub change : Stepped → Bool → Change
+change step frees = record { answer = step .answer; host = step .host; sent = step .sent; receivers = step .receivers; frees = frees }
+
+-- the step in it
+abbrev pub stepOf : Change → Stepped
+stepOf k = record { answer = k .answer; host = k .host; sent = k .sent; receivers = k .receivers }
+
+unfoldable pub deliverChange : Settings → Host → Content → Change
+deliverChange s h Content.Empty = change (refused refusedSlot h) false
+deliverChange s h (Content.One m) = change (messageStep s h m) true
+
+unfoldable pub loseChange : Host → Content → Change
+loseChange h Content.Empty = change (refused refusedSlot h) true
+loseChange h (Content.One m) = change (quiet h) true
+
+unfoldable pub repeatChange : Host → Content → Change
+repeatChange h Content.Empty = change (refused refusedSlot h) false
+repeatChange h (Content.One m) = change (sending h m (single (targetOf m))) false
+
+unfoldable pub changeOf : Settings → Event → Host → Content → Change
+changeOf s (AdvanceAll d) h t = change (quiet h) false
+changeOf s (AdvanceOne k d) h t = change (advanceOf s h d) false
+changeOf s (Start k d) h t = change (startOf s h d) false
+changeOf s (Deliver i) h t = deliverChange s h t
+changeOf s (Lose i) h t = loseChange h t
+changeOf s (Repeat i) h t = repeatChange h t
+changeOf s (Restart k) h t = change (restartOf s h) false

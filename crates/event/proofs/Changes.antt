@@ -1,0 +1,387 @@
+-- An event is the change that is found from the one host and the one slot that it is about: each row of the tables of the events in the
+-- form of its change, and from that what `apply_within` gives at each of its returns. Assumes nothing.
+use mathlib.Core.Path.{_≡_, refl, sym, ap, _∙_}
+use mathlib.Core.Bool.{Bool, true, false, _&&_, not}
+use mathlib.Core.List.{List, [], _∷_}
+use Prim.Native.Nat.{ℕ, _≤_, _<_}
+use native.Mathlib.Omega.{arith}
+use lib.Dec.{ltb}
+use lib.ListN.{getD, set}
+use lib.Seq.{set-getD}
+use borrow.Author.Tests.{lt-ltb, le-ltb, le-leb, lt-leb, ne-eqb}
+use Rattle.base.specs.Refusals.{done, unless, firstOf, refusedCell, refusedHost, refusedSlot, refusedSpread, refusedFull}
+use Rattle.base.proofs.Tests.{true-false, first-passed, first-next, first-only, first-same, first-found}
+use Rattle.quorum.specs.Sets.{single}
+use Rattle.quorum.proofs.Laws.{members-single}
+use Rattle.quorum.proofs.Majorities.{size-single}
+use Rattle.message.specs.declared.Message.{Message}
+use Rattle.message.specs.Message.{messageTo}
+use Rattle.message.proofs.Laws.{message-numbers}
+use Rattle.host.specs.declared.Host.{Host}
+use Rattle.host.specs.declared.Sent.{Sent}
+use Rattle.host.specs.declared.Stepped.{Stepped}
+use Rattle.host.specs.Steps.{refused, quiet, sending, advanceRefusal, advanceOf, advanced, restartRefusal, restartOf, restarted, startRefusal, startOf, started, messageRefusal, messageStep}
+use Rattle.host.proofs.Kept.{answer-advance, answer-restart, answer-start, answer-message, advance-done, restart-done, start-done, message-done, message-passed}
+use Rattle.host.proofs.Stays.{stays-started, stays-acted}
+use Rattle.places.specs.Places.{blankHost, advancesRefusal}
+use Rattle.slots.specs.declared.Slot.{Slot}
+use Rattle.slots.specs.declared.Content.{Content}
+use Rattle.slots.specs.Slots.{slotCount, emptySlot, isEmpty, slotRefusal, empties, fullRefusal, placed, placedEach, placedTo, freed}
+use Rattle.slots.specs.Parts.{slotAfter}
+use Rattle.cell.specs.declared.Cell.{Cell}
+use Rattle.cell.specs.declared.Event.{Event}
+use Rattle.cell.specs.declared.Event.the-variants.{AdvanceAll, AdvanceOne, Start, Deliver, Lose, Repeat, Restart}
+use Rattle.cell.specs.Limits.{hostAt, withHost, contentAt, clocksNear, cellOk}
+use Rattle.cell.specs.Events.{answered, answerWith, withSlots, hostRefusal, messagesIn, stepFull, sentTo, stepped, advanceAllRefusal, advancedAll, advanceOneRefusal, advancedOne, startStep, startAtRefusal, targetOf, deliverStep, deliverFull, deliverRefusal, delivered, loseRefusal, repeatRefusal, repeated, restartAtRefusal, refusalOf, afterOf, eventOf}
+use Rattle.cell.proofs.Hosts.{Sized, sized-host, out-near}
+use Rattle.cell.proofs.Limits.{cell-in, n-of, message-of, target-in}
+use Rattle.cell.proofs.Kept.{host-passed, still-near}
+use Rattle.change.specs.declared.Change.{Change}
+use Rattle.change.specs.Parts.{change, stepOf, isAll, ticksOf, slotOf, targetIn, hostOf, deliverChange, loseChange, repeatChange, changeOf}
+use Rattle.event.specs.Parts.{slotsAfter, changeRefusal, changed}
+
+-- ---- what stays
+
+-- a slot that is not freed stays
+keeps : (ss : List Slot) (i : ℕ) → set ss i (slotAfter false (getD ss i emptySlot)) ≡ ss
+unfolding slotAfter
+keeps ss i = set-getD ss i emptySlot
+
+-- a host that is put back stays
+host-keeps : (c : Cell) (h : ℕ) → withHost c h (hostAt c h) ≡ c
+host-keeps c h = rw (set-getD (c .hosts) h blankHost)
+
+quiet-full : (ss : List Slot) (h : Host) → stepFull ss (quiet h) ≡ done
+unfolding messagesIn
+quiet-full ss h = rw (le-leb 0 (empties ss) (omega arith))
+
+-- a message placed to its own target alone
+own-target : (m : Message) → messageTo m (targetOf m) ≡ m
+unfolding messageTo
+own-target m = message-numbers m
+
+own-sent : (n : ℕ) (ss : List Slot) (m : Message) → targetOf m < n → sentTo n ss (Sent.One m) (single (targetOf m)) ≡ placed ss m
+unfolding sentTo placedEach
+own-sent n ss m b = rw (members-single n (targetOf m) b, own-target m)
+
+own-full : (ss : List Slot) (h : Host) (m : Message) → stepFull ss (sending h m (single (targetOf m))) ≡ fullRefusal 1 ss
+unfolding messagesIn
+own-full ss h m = rw (size-single (targetOf m))
+
+all-is : (e : Event) → isAll e ≡ true → e ≡ AdvanceAll (ticksOf e)
+all-is (AdvanceAll d) p = refl
+all-is (AdvanceOne h d) p = true-false (sym p)
+all-is (Start h d) p = true-false (sym p)
+all-is (Deliver i) p = true-false (sym p)
+all-is (Lose i) p = true-false (sym p)
+all-is (Repeat i) p = true-false (sym p)
+all-is (Restart h) p = true-false (sym p)
+
+-- ---- a cell past its limits: 1, whatever the event
+
+past-refusal : (c : Cell) (e : Event) → cellOk c ≡ false → refusalOf c e ≡ refusedCell
+unfolding refusalOf advanceAllRefusal advanceOneRefusal startAtRefusal deliverRefusal loseRefusal repeatRefusal restartAtRefusal firstOf
+past-refusal c (AdvanceAll d) o = rw o
+past-refusal c (AdvanceOne h d) o = rw o
+past-refusal c (Start h d) o = rw o
+past-refusal c (Deliver i) o = rw o
+past-refusal c (Lose i) o = rw o
+past-refusal c (Repeat i) o = rw o
+past-refusal c (Restart h) o = rw o
+
+pub past-limits : (c : Cell) (e : Event) → cellOk c ≡ false → answered refusedCell c ≡ eventOf c e
+unfolding eventOf
+past-limits c e o = sym (ap (λ (k : ℕ). answerWith k c (afterOf c e)) (past-refusal c e o))
+
+-- a message under way has its target below n
+pub target-small : (c : Cell) (i : ℕ) → cellOk c ≡ true → targetIn (contentAt c i) < 16
+target-small c i o = go (contentAt c i) refl
+  where
+    go : (t : Content) → contentAt c i ≡ t → targetIn t < 16
+    go Content.Empty e = omega arith
+    go (Content.One m) e = omega (arith, n-of c o .few, target-in (c .settings .n) m (message-of c i m o e))
+
+-- ---- the rows, of a cell within its limits
+
+module _ (c : Cell) (z : Sized c) (o : cellOk c ≡ true) where
+  -- a host whose clock did not move stays near
+  still-clocks : (h : ℕ) (x : Host) → x .clock ≡ hostAt c h .clock → clocksNear (withHost c h x) ≡ true
+  still-clocks h x t = let i = cell-in c z o in out-near (withHost c h x) (sized-host c h x z) (i .settings) (still-near c h x i t)
+
+  -- 14 and 13
+  abbrev tail : ℕ → ℕ → Change → List ℕ
+  tail i h k = unless (clocksNear (withHost c h (k .host))) refusedSpread ∷ stepFull (slotsAfter c i k) (stepOf k) ∷ []
+
+  near-passed : (i h : ℕ) (k : Change) → clocksNear (withHost c h (k .host)) ≡ true → firstOf (tail i h k) ≡ stepFull (slotsAfter c i k) (stepOf k)
+  near-passed i h k e =
+      first-next (unless (clocksNear (withHost c h (k .host))) refusedSpread) _ (ap (λ (b : Bool). unless b refusedSpread) e)
+      ∙ first-only (stepFull (slotsAfter c i k) (stepOf k))
+
+  still-passed : (i h : ℕ) (k : Change) → k .host .clock ≡ hostAt c h .clock → firstOf (tail i h k) ≡ stepFull (slotsAfter c i k) (stepOf k)
+  still-passed i h k t = near-passed i h k (still-clocks h (k .host) t)
+
+  cell-passed : (ks : List ℕ) → firstOf (unless (cellOk c) refusedCell ∷ ks) ≡ firstOf ks
+  cell-passed ks = first-next (unless (cellOk c) refusedCell) ks (ap (λ (b : Bool). unless b refusedCell) o)
+
+  host-let : (h : ℕ) (ks : List ℕ) → h < c .settings .n → firstOf (hostRefusal c h ∷ ks) ≡ firstOf ks
+  host-let h ks b = first-next (hostRefusal c h) ks (ap (λ (x : Bool). unless x refusedHost) (lt-ltb h (c .settings .n) b))
+
+  -- an event at a host
+  host-row : (h : ℕ) (k : Change) (r : ℕ) (ks : List ℕ) → k .answer ≡ r → (r ≡ done → firstOf ks ≡ firstOf (tail 0 h k))
+      → firstOf (unless (cellOk c) refusedCell ∷ hostRefusal c h ∷ r ∷ ks) ≡ changeRefusal c 0 h k
+  unfolding changeRefusal
+  host-row h k r ks e f =
+      cell-passed _
+      ∙ first-same (hostRefusal c h) (r ∷ ks) (k .answer ∷ tail 0 h k) (λ _. first-same r ks (tail 0 h k) f ∙ ap (λ (x : ℕ). firstOf (x ∷ tail 0 h k)) (sym e))
+      ∙ sym (first-next (unless (ltb 0 slotCount) refusedSlot) _ refl)
+
+  -- an event at a slot: 12 where it is empty
+  slot-row : (i h : ℕ) (t : Content) (k : Change) (ks : List ℕ) → h < c .settings .n → firstOf (unless (not (isEmpty t)) refusedSlot ∷ ks) ≡ firstOf (k .answer ∷ tail i h k)
+      → firstOf (unless (cellOk c) refusedCell ∷ slotRefusal i t ∷ ks) ≡ changeRefusal c i h k
+  unfolding changeRefusal firstOf
+  slot-row i h t k ks b f = cell-passed (slotRefusal i t ∷ ks) ∙ go (ltb i slotCount)
+    where
+      go : (x : Bool) → firstOf (unless (x && not (isEmpty t)) refusedSlot ∷ ks) ≡ firstOf (unless x refusedSlot ∷ hostRefusal c h ∷ k .answer ∷ tail i h k)
+      go true = f ∙ sym (host-let h (k .answer ∷ tail i h k) b)
+      go false = refl
+
+  some : 0 < c .settings .n
+  some = n-of c o .some
+
+  -- nothing moves
+  still-changed : (i a : ℕ) → changed c i 0 (change (refused a (hostAt c 0)) false) ≡ c
+  unfolding stepped sentTo
+  still-changed i a = rw (keeps (c .slots) i, host-keeps c 0)
+
+  -- ---- advance one, start, restart
+
+  one-refusal : (h d : ℕ) → advanceOneRefusal c h d ≡ changeRefusal c 0 h (change (advanceOf (c .settings) (hostAt c h) d) false)
+  unfolding advanceOneRefusal advancedOne
+  one-refusal h d =
+      let s = c .settings in
+      let x = hostAt c h in
+      host-row h (change (advanceOf s x d) false) (advanceRefusal s x d) _ (answer-advance s x d)
+      (λ e. first-same (unless (clocksNear (withHost c h (advanced x d))) refusedSpread) [] _ (λ _. sym (first-next _ [] (quiet-full (slotsAfter c 0 (change (quiet (advanced x d)) false)) (advanced x d))))
+      ∙ ap (λ (y : Stepped). firstOf (tail 0 h (change y false))) (sym (advance-done s x d e)))
+
+  one-after : (h d : ℕ) → advanceOneRefusal c h d ≡ done → advancedOne c h d ≡ changed c 0 h (change (advanceOf (c .settings) (hostAt c h) d) false)
+  unfolding advanceOneRefusal advancedOne stepped sentTo
+  one-after h d e =
+      let p = first-passed (advanceRefusal (c .settings) (hostAt c h) d) _ (host-passed c h _ e .1) in
+      rw (advance-done (c .settings) (hostAt c h) d (p .0), keeps (c .slots) 0)
+
+  start-refusal : (h d : ℕ) → startAtRefusal c h d ≡ changeRefusal c 0 h (change (startOf (c .settings) (hostAt c h) d) false)
+  unfolding startAtRefusal
+  start-refusal h d =
+      let s = c .settings in
+      let x = hostAt c h in
+      let step = started s x d in
+      host-row h (change (startOf s x d) false) (startRefusal s x d) _ (answer-start s x d)
+      (λ e. first-only (stepFull (c .slots) step) ∙ ap (λ (ss : List Slot). stepFull ss step) (sym (keeps (c .slots) 0))
+      ∙ sym (still-passed 0 h (change step false) (stays-started s x d .clock))
+      ∙ ap (λ (y : Stepped). firstOf (tail 0 h (change y false))) (sym (start-done s x d e)))
+
+  start-after : (h d : ℕ) → startAtRefusal c h d ≡ done → stepped c h (c .slots) (startStep c h d) ≡ changed c 0 h (change (startOf (c .settings) (hostAt c h) d) false)
+  unfolding startAtRefusal
+  start-after h d e =
+      let p = first-passed (startRefusal (c .settings) (hostAt c h) d) _ (host-passed c h _ e .1) in
+      rw (start-done (c .settings) (hostAt c h) d (p .0), keeps (c .slots) 0)
+
+  restart-refusal : (h : ℕ) → restartAtRefusal c h ≡ changeRefusal c 0 h (change (restartOf (c .settings) (hostAt c h)) false)
+  unfolding restartAtRefusal restarted firstOf
+  restart-refusal h =
+      let s = c .settings in
+      let x = hostAt c h in
+      let k = change (quiet (restarted s x)) false in
+      host-row h (change (restartOf s x) false) (restartRefusal s x) [] (answer-restart s x)
+      (λ e. sym (still-passed 0 h k refl ∙ quiet-full (slotsAfter c 0 k) (restarted s x)) ∙ ap (λ (y : Stepped). firstOf (tail 0 h (change y false))) (sym (restart-done s x e)))
+
+  restart-after : (h : ℕ) → restartAtRefusal c h ≡ done → withHost c h (restarted (c .settings) (hostAt c h)) ≡ changed c 0 h (change (restartOf (c .settings) (hostAt c h)) false)
+  unfolding restartAtRefusal stepped sentTo
+  restart-after h e =
+      let p = first-passed (restartRefusal (c .settings) (hostAt c h)) _ (host-passed c h _ e .1) in
+      rw (restart-done (c .settings) (hostAt c h) (p .0), keeps (c .slots) 0)
+
+  -- ---- deliver, lose, repeat: by what the slot holds
+
+  module _ (i : ℕ) where
+    abbrev delivers : Content → Change
+    delivers t = deliverChange (c .settings) (hostAt c (targetIn t)) t
+
+    in-reach : (m : Message) → contentAt c i ≡ Content.One m → targetOf m < c .settings .n
+    in-reach m e = target-in (c .settings .n) m (message-of c i m o e)
+
+    -- a host refuses no message under way
+    passed : (m : Message) → contentAt c i ≡ Content.One m → messageRefusal (c .settings) (hostAt c (targetOf m)) m ≡ done
+    passed m e =
+        let j = cell-in c z o in
+        let b = in-reach m e in
+        message-passed (c .settings) (hostAt c (targetOf m)) m (j .host (targetOf m) b) (message-of c i m o e) (sym (j .number (targetOf m) b))
+
+    acts : (m : Message) → contentAt c i ≡ Content.One m → messageStep (c .settings) (hostAt c (targetOf m)) m ≡ deliverStep c m
+    acts m e = message-done (c .settings) (hostAt c (targetOf m)) m (passed m e)
+
+    deliver-refusal : (t : Content) → contentAt c i ≡ t → firstOf (unless (cellOk c) refusedCell ∷ slotRefusal i t ∷ deliverFull c i t ∷ []) ≡ changeRefusal c i (targetIn t) (delivers t)
+    unfolding deliverFull deliverChange slotAfter isEmpty firstOf
+    deliver-refusal Content.Empty e = slot-row i 0 Content.Empty (delivers Content.Empty) (deliverFull c i Content.Empty ∷ []) some refl
+    deliver-refusal (Content.One m) e =
+        let s = c .settings in
+        let h = targetOf m in
+        let k = change (deliverStep c m) true in
+        slot-row i h (Content.One m) (delivers (Content.One m)) (deliverFull c i (Content.One m) ∷ []) (in-reach m e)
+        (first-only (stepFull (freed (c .slots) i) (deliverStep c m))
+        ∙ sym (still-passed i h k (stays-acted s (hostAt c h) m .clock))
+        ∙ ap (λ (y : Stepped). firstOf (tail i h (change y true))) (sym (acts m e))
+        ∙ sym (first-next (messageStep s (hostAt c h) m .answer) (tail i h (delivers (Content.One m))) (answer-message s (hostAt c h) m ∙ passed m e)))
+
+    deliver-after : (t : Content) → contentAt c i ≡ t → delivered c i t ≡ changed c i (targetIn t) (delivers t)
+    unfolding delivered deliverChange slotAfter
+    deliver-after Content.Empty e = sym (still-changed i refusedSlot)
+    deliver-after (Content.One m) e = ap (λ (y : Stepped). stepped c (targetOf m) (freed (c .slots) i) y) (sym (acts m e))
+
+    lose-refusal : (t : Content) → firstOf (unless (cellOk c) refusedCell ∷ slotRefusal i t ∷ []) ≡ changeRefusal c i 0 (loseChange (hostAt c 0) t)
+    unfolding loseChange isEmpty firstOf
+    lose-refusal Content.Empty = slot-row i 0 Content.Empty (loseChange (hostAt c 0) Content.Empty) [] some refl
+    lose-refusal (Content.One m) =
+        let k = change (quiet (hostAt c 0)) true in
+        slot-row i 0 (Content.One m) (loseChange (hostAt c 0) (Content.One m)) [] some (sym (still-passed i 0 k refl ∙ quiet-full (slotsAfter c i k) (hostAt c 0)))
+
+    lose-after : (t : Content) → withSlots c (freed (c .slots) i) ≡ changed c i 0 (loseChange (hostAt c 0) t)
+    unfolding loseChange stepped sentTo slotAfter
+    lose-after Content.Empty = rw (set-getD (c .hosts) 0 blankHost)
+    lose-after (Content.One m) = rw (set-getD (c .hosts) 0 blankHost)
+
+    repeat-refusal : (t : Content) → firstOf (unless (cellOk c) refusedCell ∷ slotRefusal i t ∷ fullRefusal 1 (c .slots) ∷ []) ≡ changeRefusal c i 0 (repeatChange (hostAt c 0) t)
+    unfolding repeatChange isEmpty firstOf
+    repeat-refusal Content.Empty = slot-row i 0 Content.Empty (repeatChange (hostAt c 0) Content.Empty) (fullRefusal 1 (c .slots) ∷ []) some refl
+    repeat-refusal (Content.One m) =
+        let k = repeatChange (hostAt c 0) (Content.One m) in
+        slot-row i 0 (Content.One m) k (fullRefusal 1 (c .slots) ∷ []) some
+        (first-only (fullRefusal 1 (c .slots)) ∙ sym (own-full (c .slots) (hostAt c 0) m)
+        ∙ ap (λ (ss : List Slot). stepFull ss (stepOf k)) (sym (keeps (c .slots) i)) ∙ sym (still-passed i 0 k refl))
+
+    repeat-after : (t : Content) → contentAt c i ≡ t → repeated c t ≡ changed c i 0 (repeatChange (hostAt c 0) t)
+    unfolding repeated repeatChange stepped
+    repeat-after Content.Empty e = sym (still-changed i refusedSlot)
+    repeat-after (Content.One m) e = rw (keeps (c .slots) i, set-getD (c .hosts) 0 blankHost, own-sent (c .settings .n) (c .slots) m (in-reach m e))
+
+  -- ---- any event but an advance of all
+
+  abbrev content : Event → Content
+  content e = contentAt c (slotOf e)
+
+  abbrev host : Event → ℕ
+  host e = hostOf e (content e)
+
+  abbrev changes : Event → Change
+  changes e = changeOf (c .settings) e (hostAt c (host e)) (content e)
+
+  refusal-is : (e : Event) → isAll e ≡ false → refusalOf c e ≡ changeRefusal c (slotOf e) (host e) (changes e)
+  unfolding refusalOf changeOf deliverRefusal loseRefusal repeatRefusal
+  refusal-is (AdvanceAll d) p = true-false p
+  refusal-is (AdvanceOne h d) p = one-refusal h d
+  refusal-is (Start h d) p = start-refusal h d
+  refusal-is (Deliver i) p = deliver-refusal i (contentAt c i) refl
+  refusal-is (Lose i) p = lose-refusal i (contentAt c i)
+  refusal-is (Repeat i) p = repeat-refusal i (contentAt c i)
+  refusal-is (Restart h) p = restart-refusal h
+
+  after-is : (e : Event) → isAll e ≡ false → refusalOf c e ≡ done → afterOf c e ≡ changed c (slotOf e) (host e) (changes e)
+  unfolding refusalOf afterOf changeOf
+  after-is (AdvanceAll d) p q = true-false p
+  after-is (AdvanceOne h d) p q = one-after h d q
+  after-is (Start h d) p q = start-after h d q
+  after-is (Deliver i) p q = deliver-after i (contentAt c i) refl
+  after-is (Lose i) p q = lose-after i (contentAt c i)
+  after-is (Repeat i) p q = repeat-after i (contentAt c i) refl
+  after-is (Restart h) p q = restart-after h q
+
+  -- ---- an advance of all
+
+  module _ (e : Event) (d : ℕ) (p : isAll e ≡ true) (t : d ≡ ticksOf e) where
+    all-event : e ≡ AdvanceAll d
+    all-event = all-is e p ∙ ap AdvanceAll (sym t)
+
+    all-refusal : refusalOf c (AdvanceAll d) ≡ advancesRefusal (c .settings) (c .hosts) d
+    unfolding refusalOf advanceAllRefusal
+    all-refusal = cell-passed _ ∙ first-only (advancesRefusal (c .settings) (c .hosts) d)
+
+    pub all-refused : (a : ℕ) → (a ≡ done → ⊥) → advancesRefusal (c .settings) (c .hosts) d ≡ a → answered a c ≡ eventOf c e
+    unfolding eventOf
+    all-refused a n q = sym (ap (eventOf c) all-event ∙ ap (λ (k : ℕ). answerWith k c (afterOf c (AdvanceAll d))) (all-refusal ∙ q) ∙ rw (ne-eqb a done n))
+
+    pub all-done : advancesRefusal (c .settings) (c .hosts) d ≡ done → answered done (advancedAll c d) ≡ eventOf c e
+    unfolding eventOf afterOf
+    all-done q = sym (ap (eventOf c) all-event ∙ ap (λ (k : ℕ). answerWith k c (advancedAll c d)) (all-refusal ∙ q))
+
+-- ---- any other event: what the code has found of it
+
+pub record Found (c : Cell) (e : Event) (i h : ℕ) (k : Change) : Type 0 where
+  pub sized : Sized c
+  pub ok : cellOk c ≡ true
+  pub one : isAll e ≡ false
+  pub slot-is : i ≡ slotOf e
+  pub host-is : h ≡ hostOf e (contentAt c i)
+  pub change-is : k ≡ changeOf (c .settings) e (hostAt c h) (contentAt c i)
+
+module _ {c : Cell} {e : Event} {i h : ℕ} {k : Change} (f : Found c e i h k) where
+  is-found : refusalOf c e ≡ changeRefusal c i h k
+  is-found = rw (f .change-is, f .host-is, f .slot-is) (refusal-is c (f .sized) (f .ok) e (f .one))
+
+  -- refused: the same cell with the number
+  event-refused : (a : ℕ) → (a ≡ done → ⊥) → changeRefusal c i h k ≡ a → answered a c ≡ eventOf c e
+  unfolding eventOf
+  event-refused a n q = sym (ap (λ (x : ℕ). answerWith x c (afterOf c e)) (is-found ∙ q) ∙ rw (ne-eqb a done n))
+
+  event-done : changeRefusal c i h k ≡ done → answered done (changed c i h k) ≡ eventOf c e
+  unfolding eventOf
+  event-done q =
+      sym (ap (λ (x : ℕ). answerWith x c (afterOf c e)) (is-found ∙ q) ∙ rw (f .change-is, f .host-is, f .slot-is) (ap (answered done) (after-is c (f .sized) (f .ok) e (f .one) (is-found ∙ q))))
+
+  pub slot-refused : slotCount ≤ i → answered refusedSlot c ≡ eventOf c e
+  unfolding changeRefusal firstOf
+  slot-refused b = event-refused refusedSlot (λ q. absurd (omega arith)) (rw (le-ltb i slotCount b))
+
+  pub host-refused : i < slotCount → c .settings .n ≤ h → answered refusedHost c ≡ eventOf c e
+  unfolding changeRefusal firstOf
+  host-refused b d = event-refused refusedHost (λ q. absurd (omega arith)) (rw (lt-ltb i slotCount b, le-ltb h (c .settings .n) d))
+
+  module _ (b : i < slotCount) (d : h < c .settings .n) where
+    numbers-passed : changeRefusal c i h k ≡ firstOf (k .answer ∷ tail c (f .sized) (f .ok) i h k)
+    unfolding changeRefusal firstOf
+    numbers-passed = rw (lt-ltb i slotCount b, lt-ltb h (c .settings .n) d)
+
+    pub change-refused : (k .answer ≡ done → ⊥) → answered (k .answer) c ≡ eventOf c e
+    change-refused n = event-refused (k .answer) n (numbers-passed ∙ first-found (k .answer) _ n)
+
+    module _ (q : k .answer ≡ done) where
+      pub spread-refused : clocksNear (withHost c h (k .host)) ≡ false → answered refusedSpread c ≡ eventOf c e
+      unfolding firstOf
+      spread-refused l = event-refused refusedSpread (λ q. absurd (omega arith)) (numbers-passed ∙ first-next (k .answer) (tail c (f .sized) (f .ok) i h k) q ∙ rw l)
+
+      -- a clock that did not move is near
+      pub still : k .host .clock ≡ hostAt c h .clock → clocksNear (withHost c h (k .host)) ≡ true
+      still t = still-clocks c (f .sized) (f .ok) h (k .host) t
+
+      module _ (near : clocksNear (withHost c h (k .host)) ≡ true) where
+        full-is : changeRefusal c i h k ≡ stepFull (slotsAfter c i k) (stepOf k)
+        full-is = numbers-passed ∙ first-next (k .answer) _ q ∙ near-passed c (f .sized) (f .ok) i h k near
+
+        abbrev count : ℕ
+        count = messagesIn (k .sent) (k .receivers)
+
+        pub full-refused : empties (slotsAfter c i k) < count → answered refusedFull c ≡ eventOf c e
+        full-refused l = event-refused refusedFull (λ q. absurd (omega arith)) (full-is ∙ rw (lt-leb count (empties (slotsAfter c i k)) l))
+
+        module _ (l : count ≤ empties (slotsAfter c i k)) where
+          committed : answered done (changed c i h k) ≡ eventOf c e
+          committed = event-done (full-is ∙ rw (le-leb count (empties (slotsAfter c i k)) l))
+
+          pub committed-quiet : k .sent ≡ Sent.Nothing → answered done (withSlots (withHost c h (k .host)) (slotsAfter c i k)) ≡ eventOf c e
+          unfolding stepped sentTo
+          committed-quiet q = rw q at committed
+
+          pub committed-sent : (m : Message) → k .sent ≡ Sent.One m
+              → answered done (withSlots (withHost c h (k .host)) (placedTo (c .settings .n) (slotsAfter c i k) m (k .receivers))) ≡ eventOf c e
+          unfolding stepped sentTo
+          committed-sent m q = rw q at committed

@@ -1,0 +1,256 @@
+use Prim.Native.Nat.{ℕ, _≤_, _<_, _-_, _+_}
+use mathlib.Core.Path.{_≡_, refl, sym, ap, _∙_}
+use mathlib.Core.Bool.{Bool, true, false, _&&_}
+use mathlib.Core.List.{List, map}
+use mathlib.Core.Logic.{_⊎_, inl, inr, ⊎-elim}
+use native.Mathlib.Nat.{le-refl}
+use native.Mathlib.Omega.{arith}
+use borrow.Author.Needs.{needs}
+use borrow.Author.Tests.{ltb-true, ltb-false, not-true, not-false, ne-eqb}
+use lib.Dec.{ltb}
+use lib.ListN.{length, getD, set, take, drop, length-set}
+use Rattle.base.specs.Refusals.{done, firstOf}
+use Rattle.base.proofs.Lists.{length-mapped}
+use Rattle.base.proofs.Tests.{both}
+use Rattle.host.specs.declared.Host.{Host}
+use Rattle.host.specs.declared.Stepped.{Stepped}
+use Rattle.host.specs.Steps.{advanceRefusal, advanced, advanceOf}
+use Rattle.host.proofs.Limits.{SettingsIn}
+use Rattle.host.proofs.Kept.{advance-done, answer-advance}
+use Rattle.places.specs.Places.{blankHost, eachHost, advancesRefusal}
+use Rattle.places.proofs.Each.{each-next, each-above}
+use Rattle.places.proofs.Walks.{refusals-step, refusals-found, refusals-end}
+use Rattle.slots.specs.declared.Slot.{Slot}
+use Rattle.slots.specs.Slots.{empties, placedTo}
+use Rattle.slots.proofs.Laws.{gained-counts}
+use Rattle.slots.proofs.Walks.{counted-turn, empties-end, Placing, WalksOn, placing-first, placing-turn, placing-last}
+use Rattle.cell.specs.declared.Answered.{Answered}
+use Rattle.cell.specs.declared.Cell.{Cell}
+use Rattle.cell.specs.Limits.{hostAt, withHost, contentAt, clocksNear}
+use Rattle.cell.specs.Events.{answered, cellOf, withSlots, messagesIn, advancedAll}
+use Rattle.cell.proofs.Hosts.{Sized}
+use Rattle.cell.proofs.Limits.{n-of}
+use Rattle.change.specs.declared.Change.{Change}
+use Rattle.change.specs.Parts.{hostOf, changeOf}
+use Rattle.event.specs.Parts.{slotsAfter}
+use Rattle.event.proofs.Changes.{Found, target-small, all-refused, all-done, slot-refused, host-refused, change-refused, spread-refused, still, full-refused, committed-quiet, committed-sent}
+use Rattle.event.proofs.apply_within.Statement.{statement}
+use Rattle.event.proofs.apply_within.Tie as tie
+
+-- what the tests of the last two loops say, taken and left
+first-below : (h n i : ℕ) → (ltb h n && ltb i 96) ≡ true → h < n
+first-below h n i e = ltb-true h n (both (ltb h n) (ltb i 96) e .0)
+
+slot-below : (h n i : ℕ) → (ltb h n && ltb i 96) ≡ true → i < 96
+slot-below h n i e = ltb-true i 96 (both (ltb h n) (ltb i 96) e .1)
+
+past : (h n i : ℕ) → (ltb h n && ltb i 96) ≡ false → (n ≤ h) ⊎ (96 ≤ i)
+past h n i e = go (ltb h n) refl e
+  where
+    go : (b : Bool) → ltb h n ≡ b → (b && ltb i 96) ≡ false → (n ≤ h) ⊎ (96 ≤ i)
+    go true p q = inr (ltb-false i 96 q)
+    go false p q = inl (ltb-false h n p)
+
+-- a count that ended early is large enough, and one that did not counted all
+counted-few : (need count k all rest : ℕ) → all ≡ count + rest → (96 ≤ k → rest ≡ 0) → (need ≤ count) ⊎ (96 ≤ k) → count < need → all < need
+counted-few need count k all rest e f (inl b) l = absurd (omega arith)
+counted-few need count k all rest e f (inr b) l = omega (arith, f b)
+
+-- an answer beside a cell whose parts are known
+beside : (x : ℕ) (a : Answered) (c : Cell) → a .settings ≡ c .settings → a .hosts ≡ c .hosts → a .slots ≡ c .slots → answered x (cellOf a) ≡ answered x c
+beside x a c p q r = rw (← p, ← q, ← r)
+
+-- the hosts below g are advanced, and none of them refused
+abbrev Inv-loop : tie.InvT-loop
+Inv-loop a₀ s n d hosts₀ g₀ a hosts g = (a ≡ a₀) × (length hosts₀ ≡ 9) × (length hosts ≡ 9) × (n ≡ s .n) × (n ≤ 9) × (g ≤ n) × (hosts ≡ eachHost g (λ h. advanced h d) hosts₀) × (advancesRefusal s hosts₀ d ≡ firstOf (map (λ h. advanceRefusal s h d) (drop g (take n hosts₀))))
+
+abbrev μ-loop : tie.MeasureT-loop
+μ-loop a₀ s n d hosts₀ g₀ a hosts g = n - g
+
+-- the slots below k are counted
+abbrev Inv-loop2 : tie.InvT-loop2
+Inv-loop2 a s n i held who found after sent receivers need count₀ k₀ count k = (length (a .slots) ≡ 96) × (k ≤ 96) × (count₀ + empties (a .slots) ≡ count + empties (drop k (a .slots)))
+
+abbrev μ-loop2 : tie.MeasureT-loop2
+μ-loop2 a s n i held who found after sent receivers need count₀ k₀ count k = 96 - k
+
+abbrev Inv-loop3 : tie.InvT-loop3
+Inv-loop3 a₀ s n i who receivers need count k m h₀ j₀ a h j = (s .n ≤ 9) × (a .settings ≡ a₀ .settings) × (a .hosts ≡ a₀ .hosts) × Placing (s .n) receivers m (a₀ .slots) (a .slots) h j
+
+abbrev μ-loop3 : tie.MeasureT-loop3
+μ-loop3 a₀ s n i who receivers need count k m h₀ j₀ a h j = (s .n - h) + (96 - j)
+
+-- ---- facts, where they are learnt
+
+sized : (c : tie.Start Inv-loop μ-loop Inv-loop2 μ-loop2 Inv-loop3 μ-loop3) → Sized (cellOf (c .args .t1))
+sized c = record { hosts = search (needs, length-mapped); slots = search (needs, length-mapped) }
+
+numbers : (c : tie.Start Inv-loop μ-loop Inv-loop2 μ-loop2 Inv-loop3 μ-loop3) → SettingsIn (c .args .t1 .settings)
+numbers c = n-of (cellOf (c .args .t1)) (c .pre)
+
+about : (c : tie.After-slot-of Inv-loop μ-loop Inv-loop2 μ-loop2 Inv-loop3 μ-loop3) → (h : ℕ) (k : Change) → h ≡ hostOf (c .before .before .before .before .before .args .e) (contentAt (cellOf (c .before .before .before .before .before .args .t1)) (c .slot-of .result)) → k ≡ changeOf (c .before .before .before .before .before .args .t1 .settings) (c .before .before .before .before .before .args .e) (hostAt (cellOf (c .before .before .before .before .before .args .t1)) h) (contentAt (cellOf (c .before .before .before .before .before .args .t1)) (c .slot-of .result)) → Found (cellOf (c .before .before .before .before .before .args .t1)) (c .before .before .before .before .before .args .e) (c .slot-of .result) h k
+about c = λ h k p q. record { sized = sized (c .before .before .before .before .before); ok = c .before .before .before .before .before .pre; one = sym (c .before .before .is-all .ensures) ∙ c .before .if1 .left; slot-is = c .slot-of .ensures; host-is = p; change-is = q }
+
+found : (c : tie.After-change-of Inv-loop μ-loop Inv-loop2 μ-loop2 Inv-loop3 μ-loop3) → Found (cellOf (c .before .before .before .before .before .before .before .before .before .before .before .args .t1)) (c .before .before .before .before .before .before .before .before .before .before .before .args .e) (c .before .before .before .before .before .before .slot-of .result) (c .before .before .before .host-of .result) (c .change-of .result)
+found c = about (c .before .before .before .before .before .before) _ _ (c .before .before .before .host-of .ensures) (c .change-of .ensures)
+
+few : (c : tie.After-change-of Inv-loop μ-loop Inv-loop2 μ-loop2 Inv-loop3 μ-loop3) → c .before .before .before .host-of .result < 9
+few c = omega (arith, numbers (c .before .before .before .before .before .before .before .before .before .before .before) .few, c .before .before .if4 .left)
+
+near : (c : tie.Joined6 Inv-loop μ-loop Inv-loop2 μ-loop2 Inv-loop3 μ-loop3) → clocksNear (withHost (cellOf (c .before .before .before .before .before .before .before .before .before .before .before .before .before .before .before .before .before .args .t1)) (c .before .before .before .before .before .before .before .before .before .host-of .result) (c .before .before .before .before .before .before .change-of .result .host)) ≡ true
+near c = ⊎-elim (λ w. sym (w .2 .ensures) ∙ not-false (w .2 .result) (w .3 .left)) (λ w. still (found (c .before .before .before .before .before .before)) (c .before .before .before .before .before .before .before .before .before .before .before .if3 .left) (c .before .before .before .before .before .before .before .before .if4 .left) (c .before .before .before .before .if5 .left) (w .left)) (c .if6 .came)
+
+-- the empty slots once the event's own slot is freed
+gains : (c : tie.After-gained-by Inv-loop μ-loop Inv-loop2 μ-loop2 Inv-loop3 μ-loop3) → empties (slotsAfter (cellOf (c .before .before .before .before .before .before .before .before .before .before .before .before .before .before .before .before .before .before .before .args .t1)) (c .before .before .before .before .before .before .before .before .before .before .before .before .before .before .slot-of .result) (c .before .before .before .before .before .before .before .before .change-of .result)) ≡ c .gained-by .result + empties (c .before .before .before .before .before .before .before .before .before .before .before .before .before .before .before .before .before .before .before .args .t1 .slots)
+gains c = gained-counts (c .before .before .before .before .before .before .before .before .change-of .result .frees) (c .before .before .before .before .before .before .before .before .before .before .before .before .before .before .before .before .before .before .before .args .t1 .slots) (c .before .before .before .before .before .before .before .before .before .before .before .before .before .before .slot-of .result) (omega (arith, sized (c .before .before .before .before .before .before .before .before .before .before .before .before .before .before .before .before .before .before .before) .slots, c .before .before .before .before .before .before .before .before .before .before .before .before .before .if3 .left)) ∙ ap (λ (x : ℕ). x + empties (c .before .before .before .before .before .before .before .before .before .before .before .before .before .before .before .before .before .before .before .args .t1 .slots)) (sym (c .gained-by .ensures))
+
+fits : (c : tie.Else8 Inv-loop μ-loop Inv-loop2 μ-loop2 Inv-loop3 μ-loop3) → messagesIn (c .before .before .before .before .before .before .before .before .before .before .before .change-of .result .sent) (c .before .before .before .before .before .before .before .before .before .before .before .change-of .result .receivers) ≤ empties (slotsAfter (cellOf (c .before .before .before .before .before .before .before .before .before .before .before .before .before .before .before .before .before .before .before .before .before .before .args .t1)) (c .before .before .before .before .before .before .before .before .before .before .before .before .before .before .before .before .before .slot-of .result) (c .before .before .before .before .before .before .before .before .before .before .before .change-of .result))
+fits c = omega (arith, gains (c .before .before .before), c .before .before .before .before .messages-in .ensures, c .before .before .loop2 .inv .2, c .if8 .left)
+
+-- in the walk that advances: the host whose turn it is has not moved, and its answer
+unmoved : (c : tie.In-loop Inv-loop μ-loop Inv-loop2 μ-loop2 Inv-loop3 μ-loop3) → getD (c .before .loop .hosts) (c .before .loop .g) blankHost ≡ hostAt (cellOf (c .before .before .before .before .before .before .before .before .args .t1)) (c .before .loop .g)
+unmoved c = ap (λ (hs : List Host). getD hs (c .before .loop .g) blankHost) (c .before .loop .inv .6) ∙ each-above (c .before .loop .g) (λ h. advanced h (c .before .before .before .ticks-of .result)) (c .before .before .before .before .before .before .before .before .args .t1 .hosts) (c .before .loop .g) blankHost (le-refl _)
+
+refuses : (c : tie.After-advance Inv-loop μ-loop Inv-loop2 μ-loop2 Inv-loop3 μ-loop3) → c .advance .result .answer ≡ advanceRefusal (c .before .before .before .before .before .before .before .before .before .before .args .t1 .settings) (hostAt (cellOf (c .before .before .before .before .before .before .before .before .before .before .args .t1)) (c .before .before .before .loop .g)) (c .before .before .before .before .before .ticks-of .result)
+refuses c = ap (λ (x : Stepped). x .answer) (c .advance .ensures) ∙ answer-advance _ _ _ ∙ ap (λ (x : Host). advanceRefusal (c .before .before .before .before .before .before .before .before .before .before .args .t1 .settings) x (c .before .before .before .before .before .ticks-of .result)) (unmoved (c .before .before))
+
+reach : (c : tie.In-loop Inv-loop μ-loop Inv-loop2 μ-loop2 Inv-loop3 μ-loop3) → c .before .before .before .before .before .before .before .before .args .t1 .settings .n ≤ length (c .before .before .before .before .before .before .before .before .args .t1 .hosts)
+reach c = omega (arith, sized (c .before .before .before .before .before .before .before .before) .hosts, numbers (c .before .before .before .before .before .before .before .before) .few)
+
+-- the walk that places, one turn on
+turned : (c : tie.After-turn-of Inv-loop μ-loop Inv-loop2 μ-loop2 Inv-loop3 μ-loop3) → WalksOn (c .before .before .before .before .loop3 .inv .3) (c .turn-of .result)
+turned c = rw (c .turn-of .ensures) (placing-turn (c .before .before .before .before .loop3 .inv .3) (first-below (c .before .before .before .before .loop3 .h) (c .before .before .before .before .before .before .before .before .before .before .before .before .before .before .before .before .before .before .before .before .before .before .before .before .before .before .before .before .before .before .before .args .t1 .settings .n) (c .before .before .before .before .loop3 .j) (c .before .before .if9 .taken)) (slot-below (c .before .before .before .before .loop3 .h) (c .before .before .before .before .before .before .before .before .before .before .before .before .before .before .before .before .before .before .before .before .before .before .before .before .before .before .before .before .before .before .before .args .t1 .settings .n) (c .before .before .before .before .loop3 .j) (c .before .before .if9 .taken)))
+
+loop-holds : tie.Need-loop-holds Inv-loop μ-loop Inv-loop2 μ-loop2 Inv-loop3 μ-loop3
+unfolding eachHost advancesRefusal
+loop-holds c = (refl, sized (c .before .before .before .before .before .before) .hosts, sized (c .before .before .before .before .before .before) .hosts, refl, numbers (c .before .before .before .before .before .before) .few, omega arith, refl, refl)
+
+returns : tie.Need-returns Inv-loop μ-loop Inv-loop2 μ-loop2 Inv-loop3 μ-loop3
+returns c =
+    ap (λ (x : Answered). answered (c .before .before .advance .result .answer) (cellOf x)) (c .before .before .before .before .before .loop .inv .0)
+    ∙ all-refused (cellOf (c .before .before .before .before .before .before .before .before .before .before .before .before .args .t1)) (sized (c .before .before .before .before .before .before .before .before .before .before .before .before)) (c .before .before .before .before .before .before .before .before .before .before .before .before .pre) (c .before .before .before .before .before .before .before .before .before .before .before .before .args .e) (c .before .before .before .before .before .before .before .ticks-of .result) (sym (c .before .before .before .before .before .before .before .before .before .is-all .ensures) ∙ c .before .before .before .before .before .before .before .before .if1 .taken) (c .before .before .before .before .before .before .before .ticks-of .ensures) _ (c .if2 .taken) (c .before .before .before .before .before .loop .inv .7 ∙ refusals-found (c .before .before .before .before .before .before .before .before .before .before .before .before .args .t1 .settings) (c .before .before .before .before .before .before .before .ticks-of .result) (c .before .before .before .before .before .before .before .before .before .before .before .before .args .t1 .hosts) (c .before .before .before .before .before .before .before .before .before .before .before .before .args .t1 .settings .n) (c .before .before .before .before .before .loop .g) (reach (c .before .before .before .before)) (c .before .before .before .before .loop-test .taken) (ne-eqb _ _ (λ q. c .if2 .taken (refuses (c .before .before) ∙ q))) ∙ sym (refuses (c .before .before)))
+
+loop-again : tie.Need-loop-again Inv-loop μ-loop Inv-loop2 μ-loop2 Inv-loop3 μ-loop3
+loop-again c =
+    let s = c .before .before .before .before .before .before .before .before .before .before .before .before .before .args .t1 .settings in
+    let d = c .before .before .before .before .before .before .before .before .ticks-of .result in
+    let g = c .before .before .before .before .before .before .loop .g in
+    let h = hostAt (cellOf (c .before .before .before .before .before .before .before .before .before .before .before .before .before .args .t1)) g in
+    let e : advanceRefusal s h d ≡ done = sym (refuses (c .before .before .before)) ∙ c .before .if2 .left in
+    let same : c .before .before .before .advance .result .host ≡ advanced h d =
+    ap (λ (x : Stepped). x .host) (c .before .before .before .advance .ensures ∙ ap (λ (x : Host). advanceOf s x d) (unmoved (c .before .before .before .before .before)) ∙ advance-done s h d e) in (
+      c .before .before .before .before .before .before .loop .inv .0,
+      c .before .before .before .before .before .before .loop .inv .1,
+      length-set (c .before .before .before .before .before .before .loop .hosts) g _ ∙ c .before .before .before .before .before .before .loop .inv .2,
+      refl,
+      c .before .before .before .before .before .before .loop .inv .4,
+      omega arith,
+      rw (c .before .before .before .before .before .before .loop .inv .6, same) (sym (each-next g (λ h. advanced h d) (c .before .before .before .before .before .before .before .before .before .before .before .before .before .args .t1 .hosts) blankHost (omega (arith, reach (c .before .before .before .before .before), c .before .before .before .before .before .loop-test .taken)))),
+      c .before .before .before .before .before .before .loop .inv .7 ∙ refusals-step s d (c .before .before .before .before .before .before .before .before .before .before .before .before .before .args .t1 .hosts) (s .n) g (reach (c .before .before .before .before .before)) (c .before .before .before .before .before .loop-test .taken) e,
+    )
+
+returns-2 : tie.Need-returns-2 Inv-loop μ-loop Inv-loop2 μ-loop2 Inv-loop3 μ-loop3
+unfolding advancedAll
+returns-2 c =
+    let cell = cellOf (c .before .before .before .before .before .before .before .before .args .t1) in
+    let d = c .before .before .before .ticks-of .result in
+    let all : c .before .loop .g ≡ cell .settings .n = omega (arith, c .before .loop .inv .5, c .loop-test .left) in
+    let few : cell .settings .n ≤ length (cell .hosts) = omega (arith, sized (c .before .before .before .before .before .before .before .before) .hosts, numbers (c .before .before .before .before .before .before .before .before) .few) in
+    ap (λ (x : Answered). answered 0 (record { settings = x .settings; hosts = c .before .loop .hosts; slots = x .slots })) (c .before .loop .inv .0)
+    ∙ ap (λ (hs : List Host). answered 0 (record { settings = cell .settings; hosts = hs; slots = cell .slots })) (c .before .loop .inv .6 ∙ ap (λ (k : ℕ). eachHost k (λ h. advanced h d) (cell .hosts)) all)
+    ∙ all-done cell (sized (c .before .before .before .before .before .before .before .before)) (c .before .before .before .before .before .before .before .before .pre) (c .before .before .before .before .before .before .before .before .args .e) d (sym (c .before .before .before .before .before .is-all .ensures) ∙ c .before .before .before .before .if1 .taken) (c .before .before .before .ticks-of .ensures) (c .before .loop .inv .7 ∙ refusals-end (cell .settings) d (cell .hosts) (cell .settings .n) (c .before .loop .g) few (c .loop-test .left))
+
+returns-7 : tie.Need-returns-7 Inv-loop μ-loop Inv-loop2 μ-loop2 Inv-loop3 μ-loop3
+returns-7 c =
+    let ss = c .before .before .before .before .before .before .before .before .before .before .before .before .before .before .before .before .before .before .before .before .before .before .args .t1 .slots in
+    let k = c .before .before .loop2 .k in
+    full-refused (found (c .before .before .before .before .before .before .before .before .before .before .before)) (c .before .before .before .before .before .before .before .before .before .before .before .before .before .before .before .before .if3 .left) (c .before .before .before .before .before .before .before .before .before .before .before .before .before .if4 .left) (c .before .before .before .before .before .before .before .before .before .if5 .left) (near (c .before .before .before .before .before))
+    (counted-few _ (c .before .before .loop2 .count) k _ (empties (drop k ss)) (gains (c .before .before .before) ∙ c .before .before .loop2 .inv .2) (λ b. empties-end ss k (omega (arith, b, c .before .before .loop2 .inv .0))) (rw (← c .before .before .before .before .messages-in .ensures) (past _ _ k (c .before .loop2-test .left))) (rw (← c .before .before .before .before .messages-in .ensures) (c .if8 .taken)))
+
+returns-8 : tie.Need-returns-8 Inv-loop μ-loop Inv-loop2 μ-loop2 Inv-loop3 μ-loop3
+returns-8 c =
+    let cell = cellOf (c .before .before .before .before .before .before .before .before .before .before .before .before .before .before .before .before .before .before .before .before .before .before .before .before .before .args .t1) in
+    ap (λ (x : Slot). answered 0 (withSlots (withHost cell (c .before .before .before .before .before .before .before .before .before .before .before .before .before .before .before .before .before .host-of .result) (c .before .before .before .before .before .before .before .before .before .before .before .before .before .before .change-of .result .host)) (set (cell .slots) (c .before .before .before .before .before .before .before .before .before .before .before .before .before .before .before .before .before .before .before .before .slot-of .result) x))) (c .before .before .slot-after .ensures)
+    ∙ committed-quiet (found (c .before .before .before .before .before .before .before .before .before .before .before .before .before .before)) (c .before .before .before .before .before .before .before .before .before .before .before .before .before .before .before .before .before .before .before .if3 .left) (c .before .before .before .before .before .before .before .before .before .before .before .before .before .before .before .before .if4 .left) (c .before .before .before .before .before .before .before .before .before .before .before .before .if5 .left) (near (c .before .before .before .before .before .before .before .before)) (fits (c .before .before .before)) (c .enum-told .given .1)
+
+returns-9 : tie.Need-returns-9 Inv-loop μ-loop Inv-loop2 μ-loop2 Inv-loop3 μ-loop3
+returns-9 c =
+    let cell = cellOf (c .before .before .before .before .before .before .before .before .before .before .before .before .before .before .before .before .before .before .before .before .before .before .before .before .before .before .before .before .before .args .t1) in
+    let i = c .before .before .before .before .before .before .before .before .before .before .before .before .before .before .before .before .before .before .before .before .before .before .before .before .slot-of .result in
+    let k = c .before .before .before .before .before .before .before .before .before .before .before .before .before .before .before .before .before .before .change-of .result in
+    let n = cell .settings .n in
+    let m = c .before .before .before .before .sent .given .0 .0 in
+    let l = c .before .before .loop3 in
+    let all : l .a .slots ≡ placedTo n (slotsAfter cell i k) m (k .receivers) =
+    placing-last (l .inv .3) (past (l .h) n (l .j) (c .if9 .left))
+    ∙ ap (λ (y : Slot). placedTo n (set (cell .slots) i y) m (k .receivers)) (c .before .before .before .before .before .before .slot-after .ensures) in
+    beside 0 (l .a) (withSlots (withHost cell (c .before .before .before .before .before .before .before .before .before .before .before .before .before .before .before .before .before .before .before .before .before .host-of .result) (k .host)) (placedTo n (slotsAfter cell i k) m (k .receivers))) (l .inv .1) (l .inv .2) all
+    ∙ committed-sent (found (c .before .before .before .before .before .before .before .before .before .before .before .before .before .before .before .before .before .before)) (c .before .before .before .before .before .before .before .before .before .before .before .before .before .before .before .before .before .before .before .before .before .before .before .if3 .left) (c .before .before .before .before .before .before .before .before .before .before .before .before .before .before .before .before .before .before .before .before .if4 .left) (c .before .before .before .before .before .before .before .before .before .before .before .before .before .before .before .before .if5 .left) (near (c .before .before .before .before .before .before .before .before .before .before .before .before)) (fits (c .before .before .before .before .before .before .before)) m (c .before .before .before .before .sent .given .1)
+
+pub apply-within-spec : {M : Type 1} → statement M
+apply-within-spec =
+    tie.close
+    (tie.spec
+    Inv-loop
+    μ-loop
+    Inv-loop2
+    μ-loop2
+    Inv-loop3
+    μ-loop3
+    (λ c. search needs)
+    (λ c κs. search needs)
+    (λ c κs. search needs)
+    loop-holds
+    (λ c. search needs)
+    (λ c. search needs)
+    (λ c κs. search needs)
+    returns
+    (λ c. search needs)
+    (λ c. search needs)
+    (λ c. search needs)
+    (λ c. search needs)
+    loop-again
+    returns-2
+    (λ c κs. search needs)
+    (λ c. search needs)
+    (λ c. slot-refused (about (c .before) _ _ refl refl) (c .if3 .taken))
+    (λ c. search needs)
+    (λ c. search needs)
+    (λ c κs. search needs)
+    (λ c. search needs)
+    (λ c. host-refused (about (c .before .before .before .before) _ _ (c .before .host-of .ensures) refl) (c .before .before .before .if3 .left) (c .if4 .taken))
+    (λ c. search needs)
+    (λ c. omega (arith, numbers (c .before .before .before .before .before .before .before .before .before) .few, c .if4 .left))
+    (λ c κs. target-small (cellOf (c .before .before .before .before .before .before .before .before .before .before .args .t1)) (c .before .before .before .before .before .slot-of .result) (c .before .before .before .before .before .before .before .before .before .before .pre))
+    (λ c. change-refused (found (c .before .before)) (c .before .before .before .before .before .before .before .if3 .left) (c .before .before .before .before .if4 .left) (c .if5 .taken))
+    (λ c. search needs)
+    (λ c. omega (arith, few (c .before .before .before .before .before .before .before), sized (c .before .before .before .before .before .before .before .before .before .before .before .before .before .before .before .before .before .before) .hosts))
+    (λ c κs. (numbers (c .before .before .before .before .before .before .before .before .before .before .before .before .before .before .before .before .before .before) .some, numbers (c .before .before .before .before .before .before .before .before .before .before .before .before .before .before .before .before .before .before) .few))
+    (λ c. spread-refused (found (c .before .before .before .before .before .before .before .before .before)) (c .before .before .before .before .before .before .before .before .before .before .before .before .before .before .if3 .left) (c .before .before .before .before .before .before .before .before .before .before .before .if4 .left) (c .before .before .before .before .before .before .before .if5 .left) (sym (c .before .clocks-ok .ensures) ∙ not-true (c .before .clocks-ok .result) (c .if7 .taken)))
+    (λ c κs. search needs)
+    (λ c κs. search needs)
+    (λ c. (sized (c .before .before .before .before .before .before .before .before .before .before .before .before .before .before .before .before .before .before .before) .slots, omega arith, refl))
+    (λ c. search needs)
+    (λ c. omega (arith, slot-below))
+    (λ c κs. omega (arith, first-below))
+    (λ c. search needs)
+    (λ c. omega (arith, slot-below))
+    (λ c. (c .before .before .before .loop2 .inv .0, omega (arith, slot-below), c .before .before .before .loop2 .inv .2 ∙ sym (counted-turn (c .before .before .before .before .before .before .before .before .before .before .before .before .before .before .before .before .before .before .before .before .before .before .before .args .t1 .slots) (c .before .before .before .loop2 .k) (omega (arith, slot-below, c .before .before .before .loop2 .inv .0)) (c .before .before .before .loop2 .count)) ∙ ap (λ (x : ℕ). x + empties (drop (c .before .before .before .loop2 .k + 1) (c .before .before .before .before .before .before .before .before .before .before .before .before .before .before .before .before .before .before .before .before .before .before .before .args .t1 .slots))) (sym (c .counted-with .ensures))))
+    returns-7
+    (λ c. search needs)
+    (λ c. omega (arith, few (c .before .before .before .before .before .before .before .before .before .before .before), sized (c .before .before .before .before .before .before .before .before .before .before .before .before .before .before .before .before .before .before .before .before .before .before) .hosts))
+    (λ c κs. search needs)
+    (λ c. omega (arith, c .before .before .before .before .before .before .before .before .before .before .before .before .before .before .before .before .before .if3 .left))
+    (λ c. omega (arith, sized (c .before .before .before .before .before .before .before .before .before .before .before .before .before .before .before .before .before .before .before .before .before .before .before) .slots, c .before .before .before .before .before .before .before .before .before .before .before .before .before .before .before .before .before .if3 .left))
+    (λ c. search needs)
+    (λ c. search needs)
+    returns-8
+    (λ c. (numbers (c .before .before .before .before .before .before .before .before .before .before .before .before .before .before .before .before .before .before .before .before .before .before .before .before .before .before) .few, refl, refl, placing-first (c .before .before .before .before .before .before .before .before .before .before .before .before .before .before .before .before .before .before .before .before .before .before .before .before .before .before .args .t1 .settings .n) (c .before .before .before .before .before .before .before .before .before .before .before .before .before .before .before .change-of .result .receivers) (c .before .sent .given .0 .0) (set (c .before .before .before .before .before .before .before .before .before .before .before .before .before .before .before .before .before .before .before .before .before .before .before .before .before .before .args .t1 .slots) (c .before .before .before .before .before .before .before .before .before .before .before .before .before .before .before .before .before .before .before .before .before .slot-of .result) (c .before .before .before .slot-after .result)) (length-set (c .before .before .before .before .before .before .before .before .before .before .before .before .before .before .before .before .before .before .before .before .before .before .before .before .before .before .args .t1 .slots) (c .before .before .before .before .before .before .before .before .before .before .before .before .before .before .before .before .before .before .before .before .before .slot-of .result) _ ∙ sized (c .before .before .before .before .before .before .before .before .before .before .before .before .before .before .before .before .before .before .before .before .before .before .before .before .before .before) .slots)))
+    (λ c. search needs)
+    (λ c. omega (arith, slot-below))
+    (λ c κs. (omega (arith, first-below, c .before .before .before .loop3 .inv .0), omega (arith, slot-below)))
+    (λ c. omega (arith, slot-below))
+    (λ c. omega (arith, slot-below, c .before .before .before .before .before .loop3 .inv .3 .long))
+    (λ c. turned (c .before) .1)
+    (λ c. (c .before .before .before .before .before .loop3 .inv .0, c .before .before .before .before .before .loop3 .inv .1, c .before .before .before .before .before .loop3 .inv .2, turned (c .before) .0))
+    returns-9)

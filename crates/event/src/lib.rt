@@ -1,0 +1,118 @@
+// An event carried out: the change that it makes, found from small values (crate `change`), is committed to the cell in place. `apply`
+// tests the cell's limits first; `apply_within` supposes them, so that a loop over events tests nothing again.
+ghost use mathlib.Core.Path.{_≡_};
+ghost use mathlib.Core.Bool.{true};
+ghost use Rattle.cell.specs.Limits.{cellOk};
+ghost use Rattle.cell.specs.Events.{cellOf, eventOf};
+use base::DONE;
+use base::REFUSED_CELL;
+use base::REFUSED_FULL;
+use base::REFUSED_HOST;
+use base::REFUSED_SLOT;
+use base::REFUSED_SPREAD;
+use cell::Answered;
+use cell::Event;
+use host::Sent;
+use slots::SLOTS;
+
+// Any event, of a cell within its limits. Nothing of the cell is stored to before the last refusal is passed. The cell is handed to no
+// other function on the way, since that would copy it: so this one is long, and has a loop for each walk.
+pub fn apply_within(mut a: Answered, e: Event) -> Answered
+    requires { ⌜ cellOk (cellOf a) ≡ true ⌝ }
+    ensures { λ r. ⌜ r ≡ eventOf (cellOf a) e ⌝ }
+{
+    let s = a.settings;
+    let n = s.n as usize;
+    if change::is_all(e) {
+        let d = change::ticks_of(e);
+        let mut hosts = a.hosts;
+        let mut g: usize = 0;
+        while g < n {
+            let host = hosts[g];
+            let step = host.advance(s, d);
+            if step.answer != DONE {
+                a.answer = step.answer;
+                return a;
+            }
+            let moved = step.host;
+            hosts[g] = moved;
+            g += 1;
+        }
+        a.hosts = hosts;
+        a.answer = DONE;
+        return a;
+    }
+    let i = change::slot_of(e) as usize;
+    if SLOTS <= i {
+        a.answer = REFUSED_SLOT;
+        return a;
+    }
+    let held = a.slots[i];
+    let content = held.content;
+    let who = change::host_of(e, content) as usize;
+    if n <= who {
+        a.answer = REFUSED_HOST;
+        return a;
+    }
+    let actor = a.hosts[who];
+    let found = change::change_of(s, e, actor, content);
+    if found.answer != DONE {
+        a.answer = found.answer;
+        return a;
+    }
+    let after = found.host;
+    if after.clock != actor.clock {
+        let mut hosts = a.hosts;
+        hosts[who] = after;
+        if !places::clocks_ok(s, hosts) {
+            a.answer = REFUSED_SPREAD;
+            return a;
+        }
+    }
+    // Whether there are empty slots enough, a freed one among them: the count ends where there are.
+    let sent = found.sent;
+    let receivers = found.receivers;
+    let need = change::messages_in(sent, receivers);
+    let mut count = slots::gained_by(found.frees, content);
+    let mut k: usize = 0;
+    while (count < need) & (k < SLOTS) {
+        let slot = a.slots[k];
+        count = slots::counted_with(count, slot);
+        k += 1;
+    }
+    if count < need {
+        a.answer = REFUSED_FULL;
+        return a;
+    }
+    a.hosts[who] = after;
+    let kept = slots::slot_after(found.frees, held);
+    a.slots[i] = kept;
+    let Sent::One(m) = sent else {
+        a.answer = DONE;
+        return a;
+    };
+    // One walk for all receivers: the slots below j are taken.
+    let mut h: u8 = 0;
+    let mut j: usize = 0;
+    while (h < s.n) & (j < SLOTS) {
+        let slot = a.slots[j];
+        let turn = slots::turn_of(m, receivers, h, j, slot);
+        let filled = turn.slot;
+        a.slots[j] = filled;
+        h = turn.host;
+        j = turn.at;
+    }
+    a.answer = DONE;
+    a
+}
+
+// Any event: 1, then its own refusals in document 01's order.
+pub fn apply(mut a: Answered, e: Event) -> Answered
+    ensures { λ r. ⌜ r ≡ eventOf (cellOf a) e ⌝ }
+{
+    if !a.within_limits() {
+        a.answer = REFUSED_CELL;
+        return a;
+    }
+    apply_within(a, e)
+}

@@ -1,0 +1,15 @@
+use borrow.Author.Needs.{needs}
+use native.Mathlib.Numerals.{add-one}
+use Rattle.slots.specs.Parts.{counted}
+use Rattle.slots.proofs.counted_with.Statement.{statement}
+use Rattle.slots.proofs.counted_with.Tie as tie
+
+pub counted-with-spec : {M : Type 1} → statement M
+unfolding counted
+counted-with-spec =
+    tie.close
+    (tie.spec
+    (λ c κs. search needs)
+    (λ c. search needs)
+    (λ c. rw (← c .before .is-empty .ensures, c .if1 .taken, add-one))
+    (λ c. rw (← c .before .is-empty .ensures, c .if1 .left)))

@@ -1,0 +1,14 @@
+use borrow.Author.Needs.{needs}
+use Rattle.slots.specs.Parts.{gained}
+use Rattle.slots.proofs.gained_by.Statement.{statement}
+use Rattle.slots.proofs.gained_by.Tie as tie
+
+pub gained-by-spec : {M : Type 1} → statement M
+unfolding gained
+gained-by-spec =
+    tie.close
+    (tie.spec
+    (λ c κs. search needs)
+    (λ c. rw (← c .before .is-empty .ensures, c .if1 .taken))
+    (λ c. rw (← c .before .before .is-empty .ensures, c .before .if1 .left, c .if2 .taken))
+    (λ c. rw (← c .before .before .is-empty .ensures, c .before .if1 .left, c .if2 .left)))

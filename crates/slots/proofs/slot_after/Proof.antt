@@ -1,0 +1,7 @@
+use Rattle.slots.specs.Parts.{slotAfter}
+use Rattle.slots.proofs.slot_after.Statement.{statement}
+use Rattle.slots.proofs.slot_after.Tie as tie
+
+pub slot-after-spec : {M : Type 1} → statement M
+unfolding slotAfter
+slot-after-spec = tie.close (tie.spec (λ c. rw (c .if1 .taken)) (λ c. rw (c .if1 .left)))
