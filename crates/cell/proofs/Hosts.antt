@@ -1,5 +1,5 @@
--- The hosts of a cell by their number: one of them replaced, all of them advanced, and their clocks. Proofs above this file speak of hosts
--- by `hostAt` and `withHost` alone. Assumes nothing.
+-- The hosts of a cell by their number: one of them replaced, all of them advanced, and their clocks. But for the limits and the proof of
+-- `apply_within`, which walk them, proofs above this file speak of hosts by `hostAt` and `withHost` alone. Assumes nothing.
 use mathlib.Core.Path.{_≡_, refl, _∙_}
 use mathlib.Core.Bool.{true}
 use mathlib.Core.List.{List, [], _∷_, map}
@@ -7,7 +7,7 @@ use Prim.Native.Nat.{ℕ, zero, suc, _+_, _≤_, _<_}
 use native.Mathlib.Nat.{not-suc-le-zero, le-of-suc-le-suc}
 use native.Mathlib.Omega.{arith}
 use lib.ListN.{length, getD, take, length-set}
-use lib.Seq.{getD-set-same}
+use lib.Seq.{getD-set-same, set-getD}
 use Rattle.base.specs.Refusals.{done, firstOf}
 use Rattle.base.proofs.Lists.{by-place}
 use Rattle.base.proofs.Tests.{first-passed, first-of}
@@ -20,7 +20,7 @@ use Rattle.places.proofs.Limits.{clocks-in, out-clocks}
 use Rattle.places.proofs.Each.{length-each, each-below, each-above}
 use Rattle.cell.specs.declared.Cell.{Cell}
 use Rattle.cell.specs.Limits.{hostAt, withHost, clocksNear}
-use Rattle.cell.specs.Events.{advancedAll}
+use Rattle.cell.specs.Events.{hostsRefusal, advancedAll}
 
 -- nine places and 96 slots
 pub record Sized (c : Cell) : Type 0 where
@@ -42,6 +42,10 @@ module _ (c : Cell) (h : ℕ) (x : Host) where
 
   pub host-other : (k : ℕ) → (k ≡ h → ⊥) → hostAt (withHost c h x) k ≡ hostAt c k
   host-other k d = by-host (λ (y : Host). y ≡ hostAt c k) k (λ e. absurd (d e)) refl
+
+-- a host that is put back stays
+pub host-keeps : (c : Cell) (h : ℕ) → withHost c h (hostAt c h) ≡ c
+host-keeps c h = rw (set-getD (c .hosts) h blankHost)
 
 -- ---- all hosts advanced
 
@@ -71,12 +75,12 @@ module _ (c : Cell) (d : ℕ) where
   all-above k b = each-above (c .settings .n) (λ h. advanced h d) (c .hosts) k blankHost b
 
   -- where an advance of all is not refused, no host refuses it
-  pub all-passed : Sized c → c .settings .n ≤ 9 → advancesRefusal (c .settings) (c .hosts) d ≡ done → (k : ℕ) → k < c .settings .n → advanceRefusal (c .settings) (hostAt c k) d ≡ done
+  pub all-passed : Sized c → c .settings .n ≤ 9 → hostsRefusal c d ≡ done → (k : ℕ) → k < c .settings .n → advanceRefusal (c .settings) (hostAt c k) d ≡ done
   unfolding advancesRefusal
   all-passed z few e k b = first-each (λ h. advanceRefusal (c .settings) h d) (c .settings .n) (c .hosts) e k b (omega (arith, z .hosts))
 
   -- what holds of each host's number holds of the number that it is refused by
-  pub by-advances : (P : ℕ → Type 0) → P done → ((k : ℕ) → k < c .settings .n → P (advanceRefusal (c .settings) (hostAt c k) d)) → P (advancesRefusal (c .settings) (c .hosts) d)
+  pub by-advances : (P : ℕ → Type 0) → P done → ((k : ℕ) → k < c .settings .n → P (advanceRefusal (c .settings) (hostAt c k) d)) → P (hostsRefusal c d)
   unfolding advancesRefusal
   by-advances P z p = each-of P (λ h. advanceRefusal (c .settings) h d) (c .settings .n) (c .hosts) z p
 

@@ -23,7 +23,7 @@ use Rattle.host.proofs.Limits.{settings-in, host-in}
 use Rattle.host.proofs.Writable.{writable-each}
 use Rattle.host.proofs.Kept.{Fine, fine-restarted, fine-acted, done-advance, done-restart, done-start}
 use Rattle.host.proofs.Stays.{Stays, stays-started, stays-acted}
-use Rattle.places.specs.Places.{unwaited, blankHost, newHost, advancesRefusal}
+use Rattle.places.specs.Places.{unwaited, blankHost, newHost}
 use Rattle.slots.specs.declared.Slot.{Slot}
 use Rattle.slots.specs.declared.Content.{Content}
 use Rattle.slots.specs.Slots.{placed, freed}
@@ -33,7 +33,7 @@ use Rattle.cell.specs.declared.Event.{Event}
 use Rattle.cell.specs.declared.Event.the-variants.{AdvanceAll, AdvanceOne, Start, Deliver, Lose, Repeat, Restart}
 use Rattle.cell.specs.declared.Answered.{Answered}
 use Rattle.cell.specs.Limits.{hostAt, withHost, contentAt, clocksNear, cellOk}
-use Rattle.cell.specs.Events.{answered, cellOf, withSlots, sentTo, stepped, openingRefusal, opened, leastSettings, openingOf, advanceAllRefusal, advancedAll, advancedOne, advanceOneRefusal, startStep, startAtRefusal, targetOf, deliverStep, delivered, repeated, restartAtRefusal, refusalOf, afterOf, eventOf}
+use Rattle.cell.specs.Events.{answered, cellOf, withSlots, sentTo, stepped, openingRefusal, opened, leastSettings, openingOf, hostsRefusal, advanceAllRefusal, advancedAll, advancedOne, advanceOneRefusal, startStep, startAtRefusal, targetOf, deliverStep, delivered, repeated, restartAtRefusal, refusalOf, afterOf, eventOf}
 use Rattle.cell.specs.Runs.{opening, run}
 use Rattle.cell.proofs.Hosts.{Sized, sized-host, by-host, sized-all, all-below, all-above, all-passed, near-in}
 use Rattle.cell.proofs.Limits.{CellIn, cell-in, out-cell, target-in}
@@ -188,7 +188,7 @@ kept-advance-all c d o e =
     let i = cell-in c (o .0) (o .1) in
     let few = settings-in s (i .settings) .few in
     let z = sized-all c d (o .0) in
-    let p = first-passed (advancesRefusal s (c .hosts) d) [] (unless-passed (cellOk c) refusedCell _ refl e .1) in
+    let p = first-passed (hostsRefusal c d) [] (unless-passed (cellOk c) refusedCell _ refl e .1) in
     let at = all-below c d (o .0) few in
     let fine : (k : ℕ) → k < s .n → hostOk s (advanced (hostAt c k) d) ≡ true = λ k a. done-advance s (hostAt c k) d (all-passed c d (o .0) few (p .0) k a) .kept in (
       z,

@@ -79,8 +79,12 @@ openingOf s clock = answerWith (openingRefusal s clock) (opened leastSettings 0)
 
 -- ---- advance all by d: 1, 15
 
+-- the first refusal of a host
+abbrev pub hostsRefusal : Cell → ℕ → ℕ
+hostsRefusal c d = advancesRefusal (c .settings) (c .hosts) d
+
 unfoldable pub advanceAllRefusal : Cell → ℕ → ℕ
-advanceAllRefusal c d = firstOf (unless (cellOk c) refusedCell ∷ advancesRefusal (c .settings) (c .hosts) d ∷ [])
+advanceAllRefusal c d = firstOf (unless (cellOk c) refusedCell ∷ hostsRefusal c d ∷ [])
 
 unfoldable pub advancedAll : Cell → ℕ → Cell
 advancedAll c d = record { settings = c .settings; hosts = advancedHosts (c .settings) (c .hosts) d; slots = c .slots }

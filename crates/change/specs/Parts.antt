@@ -71,6 +71,7 @@ unfoldable pub deliverChange : Settings → Host → Content → Change
 deliverChange s h Content.Empty = change (refused refusedSlot h) false
 deliverChange s h (Content.One m) = change (messageStep s h m) true
 
+-- an empty slot may be freed: it stays as it is
 unfoldable pub loseChange : Host → Content → Change
 loseChange h Content.Empty = change (refused refusedSlot h) true
 loseChange h (Content.One m) = change (quiet h) true

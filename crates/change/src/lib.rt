@@ -1,10 +1,9 @@
-// What an event does, found from small values: settings, the event, one host and what one slot holds. It knows nothing of a cell: which
+// What an event does, found from small values: settings, the event, one host and what one slot holds. It is handed no cell: which
 // host and which slot they are, and whether there is room for what is sent, is for the crate `event`.
 ghost use mathlib.Core.Path.{_≡_};
 ghost use Prim.Native.Nat.{_<_};
 ghost use Rattle.cell.specs.Events.{messagesIn};
 ghost use Rattle.change.specs.Parts.{change, isAll, ticksOf, slotOf, targetIn, hostOf, deliverChange, loseChange, repeatChange, changeOf};
-use base::DONE;
 use base::REFUSED_SLOT;
 use cell::Event;
 use host::Host;
@@ -24,7 +23,6 @@ pub struct Change {
 
 // ---- what an event is about
 
-// Whether it is an advance of all, and by how many ticks an advance is.
 pub fn is_all(e: Event) -> bool
     ensures { λ r. ⌜ r ≡ isAll e ⌝ }
 {
@@ -39,6 +37,7 @@ pub fn is_all(e: Event) -> bool
     }
 }
 
+// By how many ticks an advance is; 0 for other events.
 pub fn ticks_of(e: Event) -> u64
     ensures { λ r. ⌜ r ≡ ticksOf e ⌝ }
 {
@@ -117,12 +116,13 @@ fn deliver_change(s: Settings, h: Host, content: Content) -> Change
     }
 }
 
+// Where the slot is empty, 12 refuses: whether it is then freed makes no difference, and one row serves both.
 fn lose_change(h: Host, content: Content) -> Change
     ensures { λ r. ⌜ r ≡ loseChange h content ⌝ }
 {
     match content {
         Content::Empty => change_by(host::refused_with(REFUSED_SLOT, h), true),
-        Content::One(_) => change_by(host::refused_with(DONE, h), true),
+        Content::One(_) => change_by(host::quiet_with(h), true),
     }
 }
 
@@ -146,7 +146,7 @@ pub fn change_of(s: Settings, e: Event, h: Host, content: Content) -> Change
     ensures { λ r. ⌜ r ≡ changeOf s e h content ⌝ }
 {
     match e {
-        Event::AdvanceAll(_) => change_by(host::refused_with(DONE, h), false),
+        Event::AdvanceAll(_) => change_by(host::quiet_with(h), false),
         Event::AdvanceOne(_, d) => change_by(h.advance(s, d), false),
         Event::Start(_, duration) => change_by(h.start(s, duration), false),
         Event::Deliver(_) => deliver_change(s, h, content),

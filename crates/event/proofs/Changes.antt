@@ -23,7 +23,6 @@ use Rattle.host.specs.declared.Stepped.{Stepped}
 use Rattle.host.specs.Steps.{refused, quiet, sending, advanceRefusal, advanceOf, advanced, restartRefusal, restartOf, restarted, startRefusal, startOf, started, messageRefusal, messageStep}
 use Rattle.host.proofs.Kept.{answer-advance, answer-restart, answer-start, answer-message, advance-done, restart-done, start-done, message-done, message-passed}
 use Rattle.host.proofs.Stays.{stays-started, stays-acted}
-use Rattle.places.specs.Places.{blankHost, advancesRefusal}
 use Rattle.slots.specs.declared.Slot.{Slot}
 use Rattle.slots.specs.declared.Content.{Content}
 use Rattle.slots.specs.Slots.{slotCount, emptySlot, isEmpty, slotRefusal, empties, fullRefusal, placed, placedEach, placedTo, freed}
@@ -32,8 +31,8 @@ use Rattle.cell.specs.declared.Cell.{Cell}
 use Rattle.cell.specs.declared.Event.{Event}
 use Rattle.cell.specs.declared.Event.the-variants.{AdvanceAll, AdvanceOne, Start, Deliver, Lose, Repeat, Restart}
 use Rattle.cell.specs.Limits.{hostAt, withHost, contentAt, clocksNear, cellOk}
-use Rattle.cell.specs.Events.{answered, answerWith, withSlots, hostRefusal, messagesIn, stepFull, sentTo, stepped, advanceAllRefusal, advancedAll, advanceOneRefusal, advancedOne, startStep, startAtRefusal, targetOf, deliverStep, deliverFull, deliverRefusal, delivered, loseRefusal, repeatRefusal, repeated, restartAtRefusal, refusalOf, afterOf, eventOf}
-use Rattle.cell.proofs.Hosts.{Sized, sized-host, out-near}
+use Rattle.cell.specs.Events.{answered, answerWith, withSlots, hostRefusal, messagesIn, stepFull, sentTo, stepped, hostsRefusal, advanceAllRefusal, advancedAll, advanceOneRefusal, advancedOne, startStep, startAtRefusal, targetOf, deliverStep, deliverFull, deliverRefusal, delivered, loseRefusal, repeatRefusal, repeated, restartAtRefusal, refusalOf, afterOf, eventOf}
+use Rattle.cell.proofs.Hosts.{Sized, sized-host, host-keeps, out-near}
 use Rattle.cell.proofs.Limits.{cell-in, n-of, message-of, target-in}
 use Rattle.cell.proofs.Kept.{host-passed, still-near}
 use Rattle.change.specs.declared.Change.{Change}
@@ -46,10 +45,6 @@ use Rattle.event.specs.Parts.{slotsAfter, changeRefusal, changed}
 keeps : (ss : List Slot) (i : ℕ) → set ss i (slotAfter false (getD ss i emptySlot)) ≡ ss
 unfolding slotAfter
 keeps ss i = set-getD ss i emptySlot
-
--- a host that is put back stays
-host-keeps : (c : Cell) (h : ℕ) → withHost c h (hostAt c h) ≡ c
-host-keeps c h = rw (set-getD (c .hosts) h blankHost)
 
 quiet-full : (ss : List Slot) (h : Host) → stepFull ss (quiet h) ≡ done
 unfolding messagesIn
@@ -248,8 +243,8 @@ module _ (c : Cell) (z : Sized c) (o : cellOk c ≡ true) where
 
     lose-after : (t : Content) → withSlots c (freed (c .slots) i) ≡ changed c i 0 (loseChange (hostAt c 0) t)
     unfolding loseChange stepped sentTo slotAfter
-    lose-after Content.Empty = rw (set-getD (c .hosts) 0 blankHost)
-    lose-after (Content.One m) = rw (set-getD (c .hosts) 0 blankHost)
+    lose-after Content.Empty = ap (λ (d : Cell). withSlots d (freed (c .slots) i)) (sym (host-keeps c 0))
+    lose-after (Content.One m) = ap (λ (d : Cell). withSlots d (freed (c .slots) i)) (sym (host-keeps c 0))
 
     repeat-refusal : (t : Content) → firstOf (unless (cellOk c) refusedCell ∷ slotRefusal i t ∷ fullRefusal 1 (c .slots) ∷ []) ≡ changeRefusal c i 0 (repeatChange (hostAt c 0) t)
     unfolding repeatChange isEmpty firstOf
@@ -263,7 +258,7 @@ module _ (c : Cell) (z : Sized c) (o : cellOk c ≡ true) where
     repeat-after : (t : Content) → contentAt c i ≡ t → repeated c t ≡ changed c i 0 (repeatChange (hostAt c 0) t)
     unfolding repeated repeatChange stepped
     repeat-after Content.Empty e = sym (still-changed i refusedSlot)
-    repeat-after (Content.One m) e = rw (keeps (c .slots) i, set-getD (c .hosts) 0 blankHost, own-sent (c .settings .n) (c .slots) m (in-reach m e))
+    repeat-after (Content.One m) e = rw (keeps (c .slots) i, own-sent (c .settings .n) (c .slots) m (in-reach m e)) (ap (λ (d : Cell). withSlots d (placed (c .slots) m)) (sym (host-keeps c 0)))
 
   -- ---- any event but an advance of all
 
@@ -302,15 +297,15 @@ module _ (c : Cell) (z : Sized c) (o : cellOk c ≡ true) where
     all-event : e ≡ AdvanceAll d
     all-event = all-is e p ∙ ap AdvanceAll (sym t)
 
-    all-refusal : refusalOf c (AdvanceAll d) ≡ advancesRefusal (c .settings) (c .hosts) d
+    all-refusal : refusalOf c (AdvanceAll d) ≡ hostsRefusal c d
     unfolding refusalOf advanceAllRefusal
-    all-refusal = cell-passed _ ∙ first-only (advancesRefusal (c .settings) (c .hosts) d)
+    all-refusal = cell-passed _ ∙ first-only (hostsRefusal c d)
 
-    pub all-refused : (a : ℕ) → (a ≡ done → ⊥) → advancesRefusal (c .settings) (c .hosts) d ≡ a → answered a c ≡ eventOf c e
+    pub all-refused : (a : ℕ) → (a ≡ done → ⊥) → hostsRefusal c d ≡ a → answered a c ≡ eventOf c e
     unfolding eventOf
     all-refused a n q = sym (ap (eventOf c) all-event ∙ ap (λ (k : ℕ). answerWith k c (afterOf c (AdvanceAll d))) (all-refusal ∙ q) ∙ rw (ne-eqb a done n))
 
-    pub all-done : advancesRefusal (c .settings) (c .hosts) d ≡ done → answered done (advancedAll c d) ≡ eventOf c e
+    pub all-done : hostsRefusal c d ≡ done → answered done (advancedAll c d) ≡ eventOf c e
     unfolding eventOf afterOf
     all-done q = sym (ap (eventOf c) all-event ∙ ap (λ (k : ℕ). answerWith k c (advancedAll c d)) (all-refusal ∙ q))
 

@@ -83,7 +83,7 @@ pub fn refused_with(answer: u8, host: Host) -> Stepped
 }
 
 // Done, with nothing to send.
-fn quiet_with(host: Host) -> Stepped
+pub fn quiet_with(host: Host) -> Stepped
     ensures { λ r. ⌜ r ≡ quiet host ⌝ }
 {
     refused_with(DONE, host)

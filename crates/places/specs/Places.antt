@@ -52,14 +52,14 @@ isBlankState t = noPromise (t .promised) && (noLease (t .accepted) && (noTick (t
 
 -- ---- limits, of a place and of the state that stands at it, apart
 
--- 'a host's number is not its place', or its clock or its wait is past its limit; at n or above all numbers are 0
+-- 1 where it does not hold: 'a host's number is not its place', or its clock or its wait is past its limit; at n or above a number is not 0
 unfoldable pub placeOk : Settings → ℕ → Host → Bool
 placeOk s i h =
     cond (ltb i (s .n))
     (eqb (h .number) i && (leb (h .clock) lastTick && leb (h .wait) lastWait))
     (eqb (h .number) 0 && (eqb (h .clock) 0 && eqb (h .wait) 0))
 
--- the state of host i is past its limits; at n or above everything is none
+-- 1 where it does not hold: the state of host i is past its limits; at n or above something in it is not none
 unfoldable pub stateAtOk : Settings → ℕ → State → Bool
 stateAtOk s i t = cond (ltb i (s .n)) (stateOk s i t) (isBlankState t)
 

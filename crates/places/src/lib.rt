@@ -79,8 +79,8 @@ fn is_blank_state(t: State) -> bool
         & (no_lease(accepted) & (no_tick(last) & (no_round(round) & no_holder(named))))
 }
 
-// Whether place i holds a number, a clock and a wait that it may.
-pub fn place_ok(s: Settings, i: usize, h: Host) -> bool
+// Whether the number, the clock and the wait at place i are within their limits.
+fn place_ok(s: Settings, i: usize, h: Host) -> bool
     ensures { λ r. ⌜ r ≡ placeOk s i h ⌝ }
 {
     if i < s.n as usize {
@@ -89,8 +89,8 @@ pub fn place_ok(s: Settings, i: usize, h: Host) -> bool
     (h.number == 0) & ((h.clock == 0) & (h.wait == 0))
 }
 
-// Whether the state at place i is one that it may be.
-pub fn state_at_ok(s: Settings, i: usize, t: State) -> bool
+// Whether the state at place i is within its limits.
+fn state_at_ok(s: Settings, i: usize, t: State) -> bool
     ensures { λ r. ⌜ r ≡ stateAtOk s i t ⌝ }
 {
     if i < s.n as usize {

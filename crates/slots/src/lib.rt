@@ -1,7 +1,7 @@
 // The messages under way: 96 slots, each empty or holding one message. Whether they are within their limits, what an event leaves of
 // the slot that it is about, and a turn of each of the two walks that count empty slots and place a message to a set of receivers.
 ghost use mathlib.Core.Path.{_≡_};
-ghost use Prim.Native.Nat.{_<_};
+ghost use Prim.Native.Nat.{_<_, _-_, _^_};
 ghost use Rattle.slots.specs.Slots.{isEmpty, contentOk, slotsOk, noMessages};
 ghost use Rattle.slots.specs.Parts.{slotAfter, gained, counted, turn};
 use base::DONE;
@@ -37,7 +37,7 @@ pub fn is_empty(c: Content) -> bool
 }
 
 // Whether writing to its target refuses nothing in the message that a slot holds, if it holds one.
-pub fn content_ok(n: u8, c: Content) -> bool
+fn content_ok(n: u8, c: Content) -> bool
     ensures { λ r. ⌜ r ≡ contentOk n c ⌝ }
 {
     match c {
@@ -84,7 +84,7 @@ pub fn slot_after(frees: bool, held: Slot) -> Slot
     held
 }
 
-// How many more slots are empty then: a freed one counts for 13.
+// By how many the empty slots grow by that, for 13: by one where a slot that held a message is freed.
 pub fn gained_by(frees: bool, content: Content) -> usize
     ensures { λ r. ⌜ r ≡ gained frees content ⌝ }
 {
@@ -97,9 +97,9 @@ pub fn gained_by(frees: bool, content: Content) -> usize
     0
 }
 
-// One empty slot more, where this one is.
+// The walk that counts: one more where this slot is empty.
 pub fn counted_with(count: usize, held: Slot) -> usize
-    requires { ⌜ count < 18446744073709551615 ⌝ }
+    requires { ⌜ count < 2 ^ 64 - 1 ⌝ }
     ensures { λ r. ⌜ r ≡ counted count held ⌝ }
 {
     let content = held.content;
@@ -109,7 +109,7 @@ pub fn counted_with(count: usize, held: Slot) -> usize
     count
 }
 
-// Host h and slot j have their turn: a host that is no receiver is passed over, and so is a slot that is taken.
+// The walk that places, at host h and slot j: a host that is no receiver is passed over, and so is a slot that is taken.
 pub fn turn_of(m: Message, receivers: u16, h: u8, j: usize, held: Slot) -> Turn
     requires { ⌜ (h < 16) × (j < 96) ⌝ }
     ensures { λ r. ⌜ r ≡ turn m receivers h j held ⌝ }

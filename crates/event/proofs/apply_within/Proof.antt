@@ -88,23 +88,54 @@ sized c = record { hosts = search (needs, length-mapped); slots = search (needs,
 numbers : (c : tie.Start Inv-loop μ-loop Inv-loop2 μ-loop2 Inv-loop3 μ-loop3) → SettingsIn (c .args .t1 .settings)
 numbers c = n-of (cellOf (c .args .t1)) (c .pre)
 
-about : (c : tie.After-slot-of Inv-loop μ-loop Inv-loop2 μ-loop2 Inv-loop3 μ-loop3) → (h : ℕ) (k : Change) → h ≡ hostOf (c .before .before .before .before .before .args .e) (contentAt (cellOf (c .before .before .before .before .before .args .t1)) (c .slot-of .result)) → k ≡ changeOf (c .before .before .before .before .before .args .t1 .settings) (c .before .before .before .before .before .args .e) (hostAt (cellOf (c .before .before .before .before .before .args .t1)) h) (contentAt (cellOf (c .before .before .before .before .before .args .t1)) (c .slot-of .result)) → Found (cellOf (c .before .before .before .before .before .args .t1)) (c .before .before .before .before .before .args .e) (c .slot-of .result) h k
+about : (c : tie.After-slot-of Inv-loop μ-loop Inv-loop2 μ-loop2 Inv-loop3 μ-loop3) → (h : ℕ) (k : Change)
+    → h ≡ hostOf (c .before .before .before .before .before .args .e) (contentAt (cellOf (c .before .before .before .before .before .args .t1)) (c .slot-of .result))
+    → k ≡ changeOf (c .before .before .before .before .before .args .t1 .settings) (c .before .before .before .before .before .args .e) (hostAt (cellOf (c .before .before .before .before .before .args .t1)) h) (contentAt (cellOf (c .before .before .before .before .before .args .t1)) (c .slot-of .result))
+    → Found (cellOf (c .before .before .before .before .before .args .t1)) (c .before .before .before .before .before .args .e) (c .slot-of .result) h k
 about c = λ h k p q. record { sized = sized (c .before .before .before .before .before); ok = c .before .before .before .before .before .pre; one = sym (c .before .before .is-all .ensures) ∙ c .before .if1 .left; slot-is = c .slot-of .ensures; host-is = p; change-is = q }
 
-found : (c : tie.After-change-of Inv-loop μ-loop Inv-loop2 μ-loop2 Inv-loop3 μ-loop3) → Found (cellOf (c .before .before .before .before .before .before .before .before .before .before .before .args .t1)) (c .before .before .before .before .before .before .before .before .before .before .before .args .e) (c .before .before .before .before .before .before .slot-of .result) (c .before .before .before .host-of .result) (c .change-of .result)
+-- what the code has in hand once the change is found
+abbrev cell : (c : tie.After-change-of Inv-loop μ-loop Inv-loop2 μ-loop2 Inv-loop3 μ-loop3) → Cell
+cell c = cellOf (c .before .before .before .before .before .before .before .before .before .before .before .args .t1)
+
+abbrev slot : (c : tie.After-change-of Inv-loop μ-loop Inv-loop2 μ-loop2 Inv-loop3 μ-loop3) → ℕ
+slot c = c .before .before .before .before .before .before .slot-of .result
+
+abbrev who : (c : tie.After-change-of Inv-loop μ-loop Inv-loop2 μ-loop2 Inv-loop3 μ-loop3) → ℕ
+who c = c .before .before .before .host-of .result
+
+abbrev change : (c : tie.After-change-of Inv-loop μ-loop Inv-loop2 μ-loop2 Inv-loop3 μ-loop3) → Change
+change c = c .change-of .result
+
+found : (c : tie.After-change-of Inv-loop μ-loop Inv-loop2 μ-loop2 Inv-loop3 μ-loop3) → Found (cell c) (c .before .before .before .before .before .before .before .before .before .before .before .args .e) (slot c) (who c) (change c)
 found c = about (c .before .before .before .before .before .before) _ _ (c .before .before .before .host-of .ensures) (c .change-of .ensures)
 
-few : (c : tie.After-change-of Inv-loop μ-loop Inv-loop2 μ-loop2 Inv-loop3 μ-loop3) → c .before .before .before .host-of .result < 9
+slot-in : (c : tie.After-change-of Inv-loop μ-loop Inv-loop2 μ-loop2 Inv-loop3 μ-loop3) → slot c < 96
+slot-in c = c .before .before .before .before .before .if3 .left
+
+who-in : (c : tie.After-change-of Inv-loop μ-loop Inv-loop2 μ-loop2 Inv-loop3 μ-loop3) → who c < cell c .settings .n
+who-in c = c .before .before .if4 .left
+
+few : (c : tie.After-change-of Inv-loop μ-loop Inv-loop2 μ-loop2 Inv-loop3 μ-loop3) → who c < 9
 few c = omega (arith, numbers (c .before .before .before .before .before .before .before .before .before .before .before) .few, c .before .before .if4 .left)
 
-near : (c : tie.Joined6 Inv-loop μ-loop Inv-loop2 μ-loop2 Inv-loop3 μ-loop3) → clocksNear (withHost (cellOf (c .before .before .before .before .before .before .before .before .before .before .before .before .before .before .before .before .before .args .t1)) (c .before .before .before .before .before .before .before .before .before .host-of .result) (c .before .before .before .before .before .before .change-of .result .host)) ≡ true
-near c = ⊎-elim (λ w. sym (w .2 .ensures) ∙ not-false (w .2 .result) (w .3 .left)) (λ w. still (found (c .before .before .before .before .before .before)) (c .before .before .before .before .before .before .before .before .before .before .before .if3 .left) (c .before .before .before .before .before .before .before .before .if4 .left) (c .before .before .before .before .if5 .left) (w .left)) (c .if6 .came)
+sizes : (c : tie.After-change-of Inv-loop μ-loop Inv-loop2 μ-loop2 Inv-loop3 μ-loop3) → Sized (cell c)
+sizes c = sized (c .before .before .before .before .before .before .before .before .before .before .before)
+
+near : (c : tie.Joined6 Inv-loop μ-loop Inv-loop2 μ-loop2 Inv-loop3 μ-loop3) → clocksNear (withHost (cell (c .before .before .before .before .before .before)) (who (c .before .before .before .before .before .before)) (change (c .before .before .before .before .before .before) .host)) ≡ true
+near c =
+    let d = (c .before .before .before .before .before .before) in
+    ⊎-elim (λ w. sym (w .2 .ensures) ∙ not-false (w .2 .result) (w .3 .left)) (λ w. still (found d) (slot-in d) (who-in d) (c .before .before .before .before .if5 .left) (w .left)) (c .if6 .came)
 
 -- the empty slots once the event's own slot is freed
-gains : (c : tie.After-gained-by Inv-loop μ-loop Inv-loop2 μ-loop2 Inv-loop3 μ-loop3) → empties (slotsAfter (cellOf (c .before .before .before .before .before .before .before .before .before .before .before .before .before .before .before .before .before .before .before .args .t1)) (c .before .before .before .before .before .before .before .before .before .before .before .before .before .before .slot-of .result) (c .before .before .before .before .before .before .before .before .change-of .result)) ≡ c .gained-by .result + empties (c .before .before .before .before .before .before .before .before .before .before .before .before .before .before .before .before .before .before .before .args .t1 .slots)
-gains c = gained-counts (c .before .before .before .before .before .before .before .before .change-of .result .frees) (c .before .before .before .before .before .before .before .before .before .before .before .before .before .before .before .before .before .before .before .args .t1 .slots) (c .before .before .before .before .before .before .before .before .before .before .before .before .before .before .slot-of .result) (omega (arith, sized (c .before .before .before .before .before .before .before .before .before .before .before .before .before .before .before .before .before .before .before) .slots, c .before .before .before .before .before .before .before .before .before .before .before .before .before .if3 .left)) ∙ ap (λ (x : ℕ). x + empties (c .before .before .before .before .before .before .before .before .before .before .before .before .before .before .before .before .before .before .before .args .t1 .slots)) (sym (c .gained-by .ensures))
+gains : (c : tie.After-gained-by Inv-loop μ-loop Inv-loop2 μ-loop2 Inv-loop3 μ-loop3) → empties (slotsAfter (cell (c .before .before .before .before .before .before .before .before)) (slot (c .before .before .before .before .before .before .before .before)) (change (c .before .before .before .before .before .before .before .before))) ≡ c .gained-by .result + empties (cell (c .before .before .before .before .before .before .before .before) .slots)
+gains c =
+    let d = (c .before .before .before .before .before .before .before .before) in
+    gained-counts (change d .frees) (cell d .slots) (slot d) (omega (arith, sizes d .slots, slot-in d))
+    ∙ ap (λ (x : ℕ). x + empties (cell d .slots)) (sym (c .gained-by .ensures))
 
-fits : (c : tie.Else8 Inv-loop μ-loop Inv-loop2 μ-loop2 Inv-loop3 μ-loop3) → messagesIn (c .before .before .before .before .before .before .before .before .before .before .before .change-of .result .sent) (c .before .before .before .before .before .before .before .before .before .before .before .change-of .result .receivers) ≤ empties (slotsAfter (cellOf (c .before .before .before .before .before .before .before .before .before .before .before .before .before .before .before .before .before .before .before .before .before .before .args .t1)) (c .before .before .before .before .before .before .before .before .before .before .before .before .before .before .before .before .before .slot-of .result) (c .before .before .before .before .before .before .before .before .before .before .before .change-of .result))
+fits : (c : tie.Else8 Inv-loop μ-loop Inv-loop2 μ-loop2 Inv-loop3 μ-loop3) → messagesIn (change (c .before .before .before .before .before .before .before .before .before .before .before) .sent) (change (c .before .before .before .before .before .before .before .before .before .before .before) .receivers)
+    ≤ empties (slotsAfter (cell (c .before .before .before .before .before .before .before .before .before .before .before)) (slot (c .before .before .before .before .before .before .before .before .before .before .before)) (change (c .before .before .before .before .before .before .before .before .before .before .before)))
 fits c = omega (arith, gains (c .before .before .before), c .before .before .before .before .messages-in .ensures, c .before .before .loop2 .inv .2, c .if8 .left)
 
 -- in the walk that advances: the host whose turn it is has not moved, and its answer
@@ -119,7 +150,10 @@ reach c = omega (arith, sized (c .before .before .before .before .before .before
 
 -- the walk that places, one turn on
 turned : (c : tie.After-turn-of Inv-loop μ-loop Inv-loop2 μ-loop2 Inv-loop3 μ-loop3) → WalksOn (c .before .before .before .before .loop3 .inv .3) (c .turn-of .result)
-turned c = rw (c .turn-of .ensures) (placing-turn (c .before .before .before .before .loop3 .inv .3) (first-below (c .before .before .before .before .loop3 .h) (c .before .before .before .before .before .before .before .before .before .before .before .before .before .before .before .before .before .before .before .before .before .before .before .before .before .before .before .before .before .before .before .args .t1 .settings .n) (c .before .before .before .before .loop3 .j) (c .before .before .if9 .taken)) (slot-below (c .before .before .before .before .loop3 .h) (c .before .before .before .before .before .before .before .before .before .before .before .before .before .before .before .before .before .before .before .before .before .before .before .before .before .before .before .before .before .before .before .args .t1 .settings .n) (c .before .before .before .before .loop3 .j) (c .before .before .if9 .taken)))
+turned c =
+    let l = c .before .before .before .before .loop3 in
+    let n = cell (c .before .before .before .before .before .before .before .before .before .before .before .before .before .before .before .before .before .before .before .before) .settings .n in
+    rw (c .turn-of .ensures) (placing-turn (l .inv .3) (first-below (l .h) n (l .j) (c .before .before .if9 .taken)) (slot-below (l .h) n (l .j) (c .before .before .if9 .taken)))
 
 loop-holds : tie.Need-loop-holds Inv-loop μ-loop Inv-loop2 μ-loop2 Inv-loop3 μ-loop3
 unfolding eachHost advancesRefusal
@@ -127,8 +161,14 @@ loop-holds c = (refl, sized (c .before .before .before .before .before .before) 
 
 returns : tie.Need-returns Inv-loop μ-loop Inv-loop2 μ-loop2 Inv-loop3 μ-loop3
 returns c =
+    let a = cellOf (c .before .before .before .before .before .before .before .before .before .before .before .before .args .t1) in
+    let s = a .settings in
+    let d = c .before .before .before .before .before .before .before .ticks-of .result in
+    let g = c .before .before .before .before .before .loop .g in
+    let r = refuses (c .before .before) in
     ap (λ (x : Answered). answered (c .before .before .advance .result .answer) (cellOf x)) (c .before .before .before .before .before .loop .inv .0)
-    ∙ all-refused (cellOf (c .before .before .before .before .before .before .before .before .before .before .before .before .args .t1)) (sized (c .before .before .before .before .before .before .before .before .before .before .before .before)) (c .before .before .before .before .before .before .before .before .before .before .before .before .pre) (c .before .before .before .before .before .before .before .before .before .before .before .before .args .e) (c .before .before .before .before .before .before .before .ticks-of .result) (sym (c .before .before .before .before .before .before .before .before .before .is-all .ensures) ∙ c .before .before .before .before .before .before .before .before .if1 .taken) (c .before .before .before .before .before .before .before .ticks-of .ensures) _ (c .if2 .taken) (c .before .before .before .before .before .loop .inv .7 ∙ refusals-found (c .before .before .before .before .before .before .before .before .before .before .before .before .args .t1 .settings) (c .before .before .before .before .before .before .before .ticks-of .result) (c .before .before .before .before .before .before .before .before .before .before .before .before .args .t1 .hosts) (c .before .before .before .before .before .before .before .before .before .before .before .before .args .t1 .settings .n) (c .before .before .before .before .before .loop .g) (reach (c .before .before .before .before)) (c .before .before .before .before .loop-test .taken) (ne-eqb _ _ (λ q. c .if2 .taken (refuses (c .before .before) ∙ q))) ∙ sym (refuses (c .before .before)))
+    ∙ all-refused a (sized (c .before .before .before .before .before .before .before .before .before .before .before .before)) (c .before .before .before .before .before .before .before .before .before .before .before .before .pre) (c .before .before .before .before .before .before .before .before .before .before .before .before .args .e) d (sym (c .before .before .before .before .before .before .before .before .before .is-all .ensures) ∙ c .before .before .before .before .before .before .before .before .if1 .taken) (c .before .before .before .before .before .before .before .ticks-of .ensures) _ (c .if2 .taken)
+    (c .before .before .before .before .before .loop .inv .7 ∙ refusals-found s d (a .hosts) (s .n) g (reach (c .before .before .before .before)) (c .before .before .before .before .loop-test .taken) (ne-eqb _ _ (λ q. c .if2 .taken (r ∙ q))) ∙ sym r)
 
 loop-again : tie.Need-loop-again Inv-loop μ-loop Inv-loop2 μ-loop2 Inv-loop3 μ-loop3
 loop-again c =
@@ -160,32 +200,47 @@ returns-2 c =
     ∙ ap (λ (hs : List Host). answered 0 (record { settings = cell .settings; hosts = hs; slots = cell .slots })) (c .before .loop .inv .6 ∙ ap (λ (k : ℕ). eachHost k (λ h. advanced h d) (cell .hosts)) all)
     ∙ all-done cell (sized (c .before .before .before .before .before .before .before .before)) (c .before .before .before .before .before .before .before .before .pre) (c .before .before .before .before .before .before .before .before .args .e) d (sym (c .before .before .before .before .before .is-all .ensures) ∙ c .before .before .before .before .if1 .taken) (c .before .before .before .ticks-of .ensures) (c .before .loop .inv .7 ∙ refusals-end (cell .settings) d (cell .hosts) (cell .settings .n) (c .before .loop .g) few (c .loop-test .left))
 
+loop2-again : tie.Need-loop2-again Inv-loop μ-loop Inv-loop2 μ-loop2 Inv-loop3 μ-loop3
+loop2-again c =
+    let ss = cell (c .before .before .before .before .before .before .before .before .before .before .before .before) .slots in
+    let l = c .before .before .before .loop2 in (
+      l .inv .0,
+      omega (arith, slot-below),
+      l .inv .2 ∙ sym (counted-turn ss (l .k) (omega (arith, slot-below, l .inv .0)) (l .count)) ∙ ap (λ (x : ℕ). x + empties (drop (l .k + 1) ss)) (sym (c .counted-with .ensures)),
+    )
+
 returns-7 : tie.Need-returns-7 Inv-loop μ-loop Inv-loop2 μ-loop2 Inv-loop3 μ-loop3
 returns-7 c =
-    let ss = c .before .before .before .before .before .before .before .before .before .before .before .before .before .before .before .before .before .before .before .before .before .before .args .t1 .slots in
-    let k = c .before .before .loop2 .k in
-    full-refused (found (c .before .before .before .before .before .before .before .before .before .before .before)) (c .before .before .before .before .before .before .before .before .before .before .before .before .before .before .before .before .if3 .left) (c .before .before .before .before .before .before .before .before .before .before .before .before .before .if4 .left) (c .before .before .before .before .before .before .before .before .before .if5 .left) (near (c .before .before .before .before .before))
-    (counted-few _ (c .before .before .loop2 .count) k _ (empties (drop k ss)) (gains (c .before .before .before) ∙ c .before .before .loop2 .inv .2) (λ b. empties-end ss k (omega (arith, b, c .before .before .loop2 .inv .0))) (rw (← c .before .before .before .before .messages-in .ensures) (past _ _ k (c .before .loop2-test .left))) (rw (← c .before .before .before .before .messages-in .ensures) (c .if8 .taken)))
+    let d = (c .before .before .before .before .before .before .before .before .before .before .before) in
+    let ss = cell d .slots in
+    let l = c .before .before .loop2 in
+    full-refused (found d) (slot-in d) (who-in d) (c .before .before .before .before .before .before .before .before .before .if5 .left) (near (c .before .before .before .before .before))
+    (counted-few _ (l .count) (l .k) _ (empties (drop (l .k) ss)) (gains (c .before .before .before) ∙ l .inv .2) (λ b. empties-end ss (l .k) (omega (arith, b, l .inv .0)))
+    (rw (← c .before .before .before .before .messages-in .ensures) (past _ _ (l .k) (c .before .loop2-test .left))) (rw (← c .before .before .before .before .messages-in .ensures) (c .if8 .taken)))
 
 returns-8 : tie.Need-returns-8 Inv-loop μ-loop Inv-loop2 μ-loop2 Inv-loop3 μ-loop3
 returns-8 c =
-    let cell = cellOf (c .before .before .before .before .before .before .before .before .before .before .before .before .before .before .before .before .before .before .before .before .before .before .before .before .before .args .t1) in
-    ap (λ (x : Slot). answered 0 (withSlots (withHost cell (c .before .before .before .before .before .before .before .before .before .before .before .before .before .before .before .before .before .host-of .result) (c .before .before .before .before .before .before .before .before .before .before .before .before .before .before .change-of .result .host)) (set (cell .slots) (c .before .before .before .before .before .before .before .before .before .before .before .before .before .before .before .before .before .before .before .before .slot-of .result) x))) (c .before .before .slot-after .ensures)
-    ∙ committed-quiet (found (c .before .before .before .before .before .before .before .before .before .before .before .before .before .before)) (c .before .before .before .before .before .before .before .before .before .before .before .before .before .before .before .before .before .before .before .if3 .left) (c .before .before .before .before .before .before .before .before .before .before .before .before .before .before .before .before .if4 .left) (c .before .before .before .before .before .before .before .before .before .before .before .before .if5 .left) (near (c .before .before .before .before .before .before .before .before)) (fits (c .before .before .before)) (c .enum-told .given .1)
+    let d = (c .before .before .before .before .before .before .before .before .before .before .before .before .before .before) in
+    ap (λ (x : Slot). answered 0 (withSlots (withHost (cell d) (who d) (change d .host)) (set (cell d .slots) (slot d) x))) (c .before .before .slot-after .ensures)
+    ∙ committed-quiet (found d) (slot-in d) (who-in d) (c .before .before .before .before .before .before .before .before .before .before .before .before .if5 .left) (near (c .before .before .before .before .before .before .before .before)) (fits (c .before .before .before)) (c .enum-told .given .1)
+
+loop3-holds : tie.Need-loop3-holds Inv-loop μ-loop Inv-loop2 μ-loop2 Inv-loop3 μ-loop3
+loop3-holds c =
+    let d = (c .before .before .before .before .before .before .before .before .before .before .before .before .before .before .before) in
+    let ss = set (cell d .slots) (slot d) (c .before .before .before .slot-after .result) in
+    (numbers (c .before .before .before .before .before .before .before .before .before .before .before .before .before .before .before .before .before .before .before .before .before .before .before .before .before .before) .few, refl, refl, placing-first (cell d .settings .n) (change d .receivers) (c .before .sent .given .0 .0) ss (length-set (cell d .slots) (slot d) _ ∙ sizes d .slots))
 
 returns-9 : tie.Need-returns-9 Inv-loop μ-loop Inv-loop2 μ-loop2 Inv-loop3 μ-loop3
 returns-9 c =
-    let cell = cellOf (c .before .before .before .before .before .before .before .before .before .before .before .before .before .before .before .before .before .before .before .before .before .before .before .before .before .before .before .before .before .args .t1) in
-    let i = c .before .before .before .before .before .before .before .before .before .before .before .before .before .before .before .before .before .before .before .before .before .before .before .before .slot-of .result in
-    let k = c .before .before .before .before .before .before .before .before .before .before .before .before .before .before .before .before .before .before .change-of .result in
-    let n = cell .settings .n in
+    let d = (c .before .before .before .before .before .before .before .before .before .before .before .before .before .before .before .before .before .before) in
+    let n = cell d .settings .n in
     let m = c .before .before .before .before .sent .given .0 .0 in
     let l = c .before .before .loop3 in
-    let all : l .a .slots ≡ placedTo n (slotsAfter cell i k) m (k .receivers) =
+    let all : l .a .slots ≡ placedTo n (slotsAfter (cell d) (slot d) (change d)) m (change d .receivers) =
     placing-last (l .inv .3) (past (l .h) n (l .j) (c .if9 .left))
-    ∙ ap (λ (y : Slot). placedTo n (set (cell .slots) i y) m (k .receivers)) (c .before .before .before .before .before .before .slot-after .ensures) in
-    beside 0 (l .a) (withSlots (withHost cell (c .before .before .before .before .before .before .before .before .before .before .before .before .before .before .before .before .before .before .before .before .before .host-of .result) (k .host)) (placedTo n (slotsAfter cell i k) m (k .receivers))) (l .inv .1) (l .inv .2) all
-    ∙ committed-sent (found (c .before .before .before .before .before .before .before .before .before .before .before .before .before .before .before .before .before .before)) (c .before .before .before .before .before .before .before .before .before .before .before .before .before .before .before .before .before .before .before .before .before .before .before .if3 .left) (c .before .before .before .before .before .before .before .before .before .before .before .before .before .before .before .before .before .before .before .before .if4 .left) (c .before .before .before .before .before .before .before .before .before .before .before .before .before .before .before .before .if5 .left) (near (c .before .before .before .before .before .before .before .before .before .before .before .before)) (fits (c .before .before .before .before .before .before .before)) m (c .before .before .before .before .sent .given .1)
+    ∙ ap (λ (y : Slot). placedTo n (set (cell d .slots) (slot d) y) m (change d .receivers)) (c .before .before .before .before .before .before .slot-after .ensures) in
+    beside 0 (l .a) (withSlots (withHost (cell d) (who d) (change d .host)) (placedTo n (slotsAfter (cell d) (slot d) (change d)) m (change d .receivers))) (l .inv .1) (l .inv .2) all
+    ∙ committed-sent (found d) (slot-in d) (who-in d) (c .before .before .before .before .before .before .before .before .before .before .before .before .before .before .before .before .if5 .left) (near (c .before .before .before .before .before .before .before .before .before .before .before .before)) (fits (c .before .before .before .before .before .before .before)) m (c .before .before .before .before .sent .given .1)
 
 pub apply-within-spec : {M : Type 1} → statement M
 apply-within-spec =
@@ -222,30 +277,30 @@ apply-within-spec =
     (λ c. search needs)
     (λ c. omega (arith, numbers (c .before .before .before .before .before .before .before .before .before) .few, c .if4 .left))
     (λ c κs. target-small (cellOf (c .before .before .before .before .before .before .before .before .before .before .args .t1)) (c .before .before .before .before .before .slot-of .result) (c .before .before .before .before .before .before .before .before .before .before .pre))
-    (λ c. change-refused (found (c .before .before)) (c .before .before .before .before .before .before .before .if3 .left) (c .before .before .before .before .if4 .left) (c .if5 .taken))
+    (λ c. let d = (c .before .before) in change-refused (found d) (slot-in d) (who-in d) (c .if5 .taken))
     (λ c. search needs)
-    (λ c. omega (arith, few (c .before .before .before .before .before .before .before), sized (c .before .before .before .before .before .before .before .before .before .before .before .before .before .before .before .before .before .before) .hosts))
+    (λ c. let d = (c .before .before .before .before .before .before .before) in omega (arith, few d, sizes d .hosts))
     (λ c κs. (numbers (c .before .before .before .before .before .before .before .before .before .before .before .before .before .before .before .before .before .before) .some, numbers (c .before .before .before .before .before .before .before .before .before .before .before .before .before .before .before .before .before .before) .few))
-    (λ c. spread-refused (found (c .before .before .before .before .before .before .before .before .before)) (c .before .before .before .before .before .before .before .before .before .before .before .before .before .before .if3 .left) (c .before .before .before .before .before .before .before .before .before .before .before .if4 .left) (c .before .before .before .before .before .before .before .if5 .left) (sym (c .before .clocks-ok .ensures) ∙ not-true (c .before .clocks-ok .result) (c .if7 .taken)))
+    (λ c. let d = (c .before .before .before .before .before .before .before .before .before) in spread-refused (found d) (slot-in d) (who-in d) (c .before .before .before .before .before .before .before .if5 .left) (sym (c .before .clocks-ok .ensures) ∙ not-true (c .before .clocks-ok .result) (c .if7 .taken)))
     (λ c κs. search needs)
     (λ c κs. search needs)
-    (λ c. (sized (c .before .before .before .before .before .before .before .before .before .before .before .before .before .before .before .before .before .before .before) .slots, omega arith, refl))
+    (λ c. (sizes (c .before .before .before .before .before .before .before .before) .slots, omega arith, refl))
     (λ c. search needs)
     (λ c. omega (arith, slot-below))
     (λ c κs. omega (arith, first-below))
     (λ c. search needs)
     (λ c. omega (arith, slot-below))
-    (λ c. (c .before .before .before .loop2 .inv .0, omega (arith, slot-below), c .before .before .before .loop2 .inv .2 ∙ sym (counted-turn (c .before .before .before .before .before .before .before .before .before .before .before .before .before .before .before .before .before .before .before .before .before .before .before .args .t1 .slots) (c .before .before .before .loop2 .k) (omega (arith, slot-below, c .before .before .before .loop2 .inv .0)) (c .before .before .before .loop2 .count)) ∙ ap (λ (x : ℕ). x + empties (drop (c .before .before .before .loop2 .k + 1) (c .before .before .before .before .before .before .before .before .before .before .before .before .before .before .before .before .before .before .before .before .before .before .before .args .t1 .slots))) (sym (c .counted-with .ensures))))
+    loop2-again
     returns-7
     (λ c. search needs)
-    (λ c. omega (arith, few (c .before .before .before .before .before .before .before .before .before .before .before), sized (c .before .before .before .before .before .before .before .before .before .before .before .before .before .before .before .before .before .before .before .before .before .before) .hosts))
+    (λ c. let d = (c .before .before .before .before .before .before .before .before .before .before .before) in omega (arith, few d, sizes d .hosts))
     (λ c κs. search needs)
-    (λ c. omega (arith, c .before .before .before .before .before .before .before .before .before .before .before .before .before .before .before .before .before .if3 .left))
-    (λ c. omega (arith, sized (c .before .before .before .before .before .before .before .before .before .before .before .before .before .before .before .before .before .before .before .before .before .before .before) .slots, c .before .before .before .before .before .before .before .before .before .before .before .before .before .before .before .before .before .if3 .left))
+    (λ c. omega (arith, slot-in (c .before .before .before .before .before .before .before .before .before .before .before .before)))
+    (λ c. let d = (c .before .before .before .before .before .before .before .before .before .before .before .before) in omega (arith, sizes d .slots, slot-in d))
     (λ c. search needs)
     (λ c. search needs)
     returns-8
-    (λ c. (numbers (c .before .before .before .before .before .before .before .before .before .before .before .before .before .before .before .before .before .before .before .before .before .before .before .before .before .before) .few, refl, refl, placing-first (c .before .before .before .before .before .before .before .before .before .before .before .before .before .before .before .before .before .before .before .before .before .before .before .before .before .before .args .t1 .settings .n) (c .before .before .before .before .before .before .before .before .before .before .before .before .before .before .before .change-of .result .receivers) (c .before .sent .given .0 .0) (set (c .before .before .before .before .before .before .before .before .before .before .before .before .before .before .before .before .before .before .before .before .before .before .before .before .before .before .args .t1 .slots) (c .before .before .before .before .before .before .before .before .before .before .before .before .before .before .before .before .before .before .before .before .before .slot-of .result) (c .before .before .before .slot-after .result)) (length-set (c .before .before .before .before .before .before .before .before .before .before .before .before .before .before .before .before .before .before .before .before .before .before .before .before .before .before .args .t1 .slots) (c .before .before .before .before .before .before .before .before .before .before .before .before .before .before .before .before .before .before .before .before .before .slot-of .result) _ ∙ sized (c .before .before .before .before .before .before .before .before .before .before .before .before .before .before .before .before .before .before .before .before .before .before .before .before .before .before) .slots)))
+    loop3-holds
     (λ c. search needs)
     (λ c. omega (arith, slot-below))
     (λ c κs. (omega (arith, first-below, c .before .before .before .loop3 .inv .0), omega (arith, slot-below)))
