@@ -1,17 +1,25 @@
--- What an event is about, and the change that it makes, in the shape of the code: found from the one host and the one slot that it is
--- about. No claim rests on it: event/proofs/Changes ties it to the tables of cell/specs/Events. Assumes nothing.
+-- What an event is about, the change that it makes, found from the one host and the one slot that it is about, and that change committed
+-- to a cell, all in the shape of the code. No claim rests on it: proofs/Tables ties it to the tables of cell/specs/Events. Assumes nothing.
 use Prim.Native.Nat.{ℕ}
 use mathlib.Core.Bool.{Bool, true, false}
-use Rattle.base.specs.Refusals.{refusedSlot}
+use mathlib.Core.List.{List, [], _∷_}
+use lib.Dec.{ltb}
+use lib.ListN.{set, getD}
+use Rattle.base.specs.Refusals.{unless, firstOf, refusedSlot, refusedSpread}
 use Rattle.quorum.specs.Sets.{single}
 use Rattle.state.specs.declared.Settings.{Settings}
 use Rattle.host.specs.declared.Host.{Host}
 use Rattle.host.specs.declared.Stepped.{Stepped}
 use Rattle.host.specs.Steps.{refused, quiet, sending, advanceOf, restartOf, startOf, messageStep}
+use Rattle.slots.specs.declared.Slot.{Slot}
 use Rattle.slots.specs.declared.Content.{Content}
+use Rattle.slots.specs.Slots.{slotCount, emptySlot}
+use Rattle.slots.specs.Parts.{slotAfter}
+use Rattle.cell.specs.declared.Cell.{Cell}
 use Rattle.cell.specs.declared.Event.{Event}
 use Rattle.cell.specs.declared.Event.the-variants.{AdvanceAll, AdvanceOne, Start, Deliver, Lose, Repeat, Restart}
-use Rattle.cell.specs.Events.{targetOf}
+use Rattle.cell.specs.Limits.{withHost, clocksNear}
+use Rattle.cell.specs.Events.{hostRefusal, stepFull, stepped, targetOf}
 use Rattle.change.specs.declared.Change.{Change}
 
 -- ---- what an event is about
@@ -88,3 +96,24 @@ changeOf s (Deliver i) h t = deliverChange s h t
 changeOf s (Lose i) h t = loseChange h t
 changeOf s (Repeat i) h t = repeatChange h t
 changeOf s (Restart k) h t = change (restartOf s h) false
+
+-- ---- the change committed
+
+-- the slots before anything is sent
+abbrev pub slotsAfter : Cell → ℕ → Change → List Slot
+slotsAfter c i k = set (c .slots) i (slotAfter (k .frees) (getD (c .slots) i emptySlot))
+
+-- 12 and 5 for a number that is too large, the change's own, 14, 13
+unfoldable pub changeRefusal : Cell → ℕ → ℕ → Change → ℕ
+changeRefusal c i h k =
+    firstOf (
+    unless (ltb i slotCount) refusedSlot
+    ∷ hostRefusal c h
+    ∷ k .answer
+    ∷ unless (clocksNear (withHost c h (k .host))) refusedSpread
+    ∷ stepFull (slotsAfter c i k) (stepOf k)
+    ∷ []
+    )
+
+abbrev pub changed : Cell → ℕ → ℕ → Change → Cell
+changed c i h k = stepped c h (slotsAfter c i k) (stepOf k)

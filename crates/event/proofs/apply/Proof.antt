@@ -1,7 +1,7 @@
 use borrow.Author.Needs.{needs}
 use borrow.Author.Tests.{not-true, not-false}
 use mathlib.Core.Path.{sym, _∙_}
-use Rattle.event.proofs.Changes.{past-limits}
+use Rattle.change.proofs.Tables.{past-limits}
 use Rattle.event.proofs.apply.Statement.{statement}
 use Rattle.event.proofs.apply.Tie as tie
 

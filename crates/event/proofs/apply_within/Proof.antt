@@ -31,9 +31,8 @@ use Rattle.cell.specs.Events.{answered, cellOf, withSlots, messagesIn, advanced
 use Rattle.cell.proofs.Hosts.{Sized}
 use Rattle.cell.proofs.Limits.{n-of}
 use Rattle.change.specs.declared.Change.{Change}
-use Rattle.change.specs.Parts.{hostOf, changeOf}
-use Rattle.event.specs.Parts.{slotsAfter}
-use Rattle.event.proofs.Changes.{Found, target-small, all-refused, all-done, slot-refused, host-refused, change-refused, spread-refused, still, full-refused, committed-quiet, committed-sent}
+use Rattle.change.specs.Parts.{hostOf, changeOf, slotsAfter}
+use Rattle.change.proofs.Tables.{Found, target-small, all-refused, all-done, slot-refused, host-refused, change-refused, spread-refused, still, full-refused, committed-quiet, committed-sent}
 use Rattle.event.proofs.apply_within.Statement.{statement}
 use Rattle.event.proofs.apply_within.Tie as tie
 

@@ -1,9 +1,25 @@
 use borrow.Author.Needs.{needs}
+use mathlib.Core.Bool.{true, false}
+use mathlib.Core.Path.{_≡_, sym, _∙_}
 use borrow.Author.Tests.{not-true, not-false}
+use Rattle.quorum.specs.Sets.{isIn}
 use Rattle.message.specs.Message.{messageTo}
+use Rattle.slots.specs.Slots.{isEmpty}
 use Rattle.slots.specs.Parts.{turn}
 use Rattle.slots.proofs.turn_of.Statement.{statement}
 use Rattle.slots.proofs.turn_of.Tie as tie
+
+passed-over : (c : tie.Then1) → isIn (c .before .before .args .receivers) (c .before .before .args .h) ≡ false
+passed-over c = sym (c .before .has .ensures) ∙ not-true (c .before .has .result) (c .if1 .taken)
+
+receives : (c : tie.Else1) → isIn (c .before .before .args .receivers) (c .before .before .args .h) ≡ true
+receives c = sym (c .before .has .ensures) ∙ not-false (c .before .has .result) (c .if1 .left)
+
+taken : (c : tie.Then2) → isEmpty (c .before .before .before .before .args .held .content) ≡ false
+taken c = sym (c .before .is-empty .ensures) ∙ not-true (c .before .is-empty .result) (c .if2 .taken)
+
+free : (c : tie.Else2) → isEmpty (c .before .before .before .before .args .held .content) ≡ true
+free c = sym (c .before .is-empty .ensures) ∙ not-false (c .before .is-empty .result) (c .if2 .left)
 
 pub turn-of-spec : {M : Type 1} → statement M
 unfolding turn messageTo
@@ -12,13 +28,13 @@ turn-of-spec =
     (tie.spec
     (λ c κs. search needs)
     (λ c. search needs)
-    (λ c. rw (← c .before .has .ensures, not-true (c .before .has .result) (c .if1 .taken)))
+    (λ c. rw (passed-over c))
     (λ c κs. search needs)
     (λ c. search needs)
-    (λ c. rw (← c .before .before .before .has .ensures, not-false (c .before .before .before .has .result) (c .before .before .if1 .left), ← c .before .is-empty .ensures, not-true (c .before .is-empty .result) (c .if2 .taken)))
+    (λ c. rw (receives (c .before .before), taken c))
     (λ c κs. search needs)
     (λ c κs. search needs)
     (λ c κs. search needs)
     (λ c. search needs)
     (λ c. search needs)
-    (λ c. rw (← c .before .before .before .before .before .before .has .ensures, not-false (c .before .before .before .before .before .before .has .result) (c .before .before .before .before .before .if1 .left), ← c .before .before .before .before .is-empty .ensures, not-false (c .before .before .before .before .is-empty .result) (c .before .before .before .if2 .left), c .message-of .ensures, c .before .with-target .ensures, c .before .before .numbers-of .ensures)))
+    (λ c. rw (receives (c .before .before .before .before .before), free (c .before .before .before), c .message-of .ensures, c .before .with-target .ensures, c .before .before .numbers-of .ensures)))

@@ -35,9 +35,8 @@ use Rattle.cell.specs.Events.{answered, answerWith, withSlots, hostRefusal, mes
 use Rattle.cell.proofs.Hosts.{Sized, sized-host, host-keeps, out-near}
 use Rattle.cell.proofs.Limits.{cell-in, n-of, message-of, target-in}
 use Rattle.cell.proofs.Kept.{host-passed, still-near}
 use Rattle.change.specs.declared.Change.{Change}
-use Rattle.change.specs.Parts.{change, stepOf, isAll, ticksOf, slotOf, targetIn, hostOf, deliverChange, loseChange, repeatChange, changeOf}
-use Rattle.event.specs.Parts.{slotsAfter, changeRefusal, changed}
+use Rattle.change.specs.Parts.{change, stepOf, isAll, ticksOf, slotOf, targetIn, hostOf, deliverChange, loseChange, repeatChange, changeOf, slotsAfter, changeRefusal, changed}
 
 -- ---- what stays
 
