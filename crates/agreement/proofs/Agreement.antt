@@ -8,16 +8,16 @@ use Rattle.state.specs.declared.Settings.{Settings}
 use Rattle.host.specs.declared.Host.{Host}
 use Rattle.cell.specs.declared.Cell.{Cell}
 use Rattle.cell.specs.Runs.{opening, run}
-use Rattle.cell.proofs.Limits.{CellIn, cell-in}
-use Rattle.theory.specs.Numbers as N
+use Rattle.cell.proofs.CellLimits.{CellIn, cell-in}
+use Rattle.theory.specs.Ballots as N
 use Rattle.theory.specs.Model as M
 use Rattle.theory.specs.Model.{World}
-use Rattle.theory.proofs.Numbers.{le-or-lt}
+use Rattle.theory.proofs.Ballots.{le-or-lt}
 use Rattle.theory.proofs.Agreement as T
 use Rattle.agreement.specs.Demand3.{Names, Agreement}
-use Rattle.agreement.proofs.Map.{asHolder, setup}
-use Rattle.cell.proofs.Kept.{opening-in, kept-run}
-use Rattle.agreement.proofs.Explained.{Explained, explained-run, explained-opening}
+use Rattle.agreement.proofs.Translation.{asHolder, setup}
+use Rattle.cell.proofs.StaysWithin.{opening-in, kept-run}
+use Rattle.agreement.proofs.Refinement.{Explained, explained-run, explained-opening}
 
 -- what a host of the cell names, it names in the world; a place at n or above names nobody
 named-in : {s : Settings} {c : Cell} {w : World (setup s)} → Explained s c w → CellIn c → (h o : ℕ) → Names c h o → (m : N.Holder) × (w .host h .named ≡ some m) × (m .owner ≡ o)

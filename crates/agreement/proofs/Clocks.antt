@@ -3,27 +3,28 @@ use mathlib.Core.List.{List, [], _∷_}
 use mathlib.Core.Logic.{_⊎_, inl, inr}
 use Prim.Native.Nat.{ℕ, _≤_, _<_}
 use native.Mathlib.Omega.{arith}
+use Rattle.message.specs.Message.{targetOf}
 use Rattle.host.specs.declared.Host.{Host}
 use Rattle.host.specs.declared.Stepped.{Stepped}
-use Rattle.host.specs.Steps.{advanced, restarted}
-use Rattle.host.proofs.Stays.{Stays, stays-started, stays-acted}
+use Rattle.host.specs.Steps.{advancedHost, restartedHost}
+use Rattle.host.proofs.Outcomes.{Stays, stays-start, stays-delivery}
 use Rattle.slots.specs.declared.Slot.{Slot}
 use Rattle.slots.specs.declared.Content.{Content}
 use Rattle.cell.specs.declared.Cell.{Cell}
 use Rattle.cell.specs.declared.Event.{Event}
 use Rattle.cell.specs.declared.Event.the-variants.{AdvanceAll, AdvanceOne, Start, Deliver, Lose, Repeat, Restart}
 use Rattle.cell.specs.declared.Answered.{Answered}
-use Rattle.cell.specs.Limits.{hostAt, withHost, contentAt}
-use Rattle.cell.specs.Events.{cellOf, stepped, advancedAll, advancedOne, startStep, targetOf, deliverStep, delivered, repeated, afterOf, eventOf}
+use Rattle.cell.specs.CellLimits.{hostAt, withHost, contentAt}
+use Rattle.cell.specs.Events.{cellOf, stepped, advancedAll, advancedOne, startStep, deliverStep, delivered, repeated, afterOf, eventOf}
 use Rattle.cell.specs.Runs.{run}
 use Rattle.cell.proofs.Hosts.{by-host, all-below, all-above}
-use Rattle.cell.proofs.Limits.{n-of}
+use Rattle.cell.proofs.CellLimits.{n-of}
 use Rattle.cell.proofs.Events.{by-outcome}
-use Rattle.cell.proofs.Kept.{Sound, kept-event}
-use Rattle.theory.proofs.Numbers.{le-or-lt}
+use Rattle.cell.proofs.StaysWithin.{Sound, kept-event}
+use Rattle.theory.proofs.Ballots.{le-or-lt}
 
 all-rises : (c : Cell) (d k : ℕ) → Sound c → hostAt c k .clock ≤ hostAt (advancedAll c d) k .clock
-unfolding advanced
+unfolding advancedHost
 all-rises c d k o = go (le-or-lt (c .settings .n) k)
   where
     go : (c .settings .n ≤ k) ⊎ (k < c .settings .n) → hostAt c k .clock ≤ hostAt (advancedAll c d) k .clock
@@ -41,7 +42,7 @@ step-rises c h ss step k y = one-rises c h (step .host) k (omega (arith, y .cloc
 deliver-rises : (c : Cell) (i : ℕ) (t : Content) (k : ℕ) → hostAt c k .clock ≤ hostAt (delivered c i t) k .clock
 unfolding delivered
 deliver-rises c i Content.Empty k = omega arith
-deliver-rises c i (Content.One m) k = step-rises c (targetOf m) _ (deliverStep c m) k (stays-acted (c .settings) (hostAt c (targetOf m)) m)
+deliver-rises c i (Content.One m) k = step-rises c (targetOf m) _ (deliverStep c m) k (stays-delivery (c .settings) (hostAt c (targetOf m)) m)
 
 repeat-rises : (c : Cell) (t : Content) (k : ℕ) → hostAt c k .clock ≤ hostAt (repeated c t) k .clock
 unfolding repeated
@@ -49,14 +50,14 @@ repeat-rises c Content.Empty k = omega arith
 repeat-rises c (Content.One m) k = omega arith
 
 after-rises : (c : Cell) (e : Event) (k : ℕ) → Sound c → hostAt c k .clock ≤ hostAt (afterOf c e) k .clock
-unfolding afterOf advancedOne advanced restarted
+unfolding afterOf advancedOne advancedHost restartedHost
 after-rises c (AdvanceAll d) k o = all-rises c d k o
-after-rises c (AdvanceOne h d) k o = one-rises c h (advanced (hostAt c h) d) k (omega arith)
-after-rises c (Start h d) k o = step-rises c h (c .slots) (startStep c h d) k (stays-started (c .settings) (hostAt c h) d)
+after-rises c (AdvanceOne h d) k o = one-rises c h (advancedHost (hostAt c h) d) k (omega arith)
+after-rises c (Start h d) k o = step-rises c h (c .slots) (startStep c h d) k (stays-start (c .settings) (hostAt c h) d)
 after-rises c (Deliver i) k o = deliver-rises c i (contentAt c i) k
 after-rises c (Lose i) k o = omega arith
 after-rises c (Repeat i) k o = repeat-rises c (contentAt c i) k
-after-rises c (Restart h) k o = one-rises c h (restarted (c .settings) (hostAt c h)) k (omega arith)
+after-rises c (Restart h) k o = one-rises c h (restartedHost (c .settings) (hostAt c h)) k (omega arith)
 
 clock-rises : (c : Cell) (e : Event) (h : ℕ) → Sound c → hostAt c h .clock ≤ hostAt (cellOf (eventOf c e)) h .clock
 clock-rises c e h o = by-outcome (λ (x : Answered). hostAt c h .clock ≤ hostAt (cellOf x) h .clock) c e (λ _. after-rises c e h o) (λ _. omega arith)

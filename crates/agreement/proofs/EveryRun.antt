@@ -5,11 +5,11 @@ use Rattle.cell.specs.declared.Cell.{Cell}
 use Rattle.cell.specs.declared.Event.{Event}
 use Rattle.cell.specs.Events.{cellOf, eventOf}
 use Rattle.cell.specs.Runs.{opening, run}
-use Rattle.cell.proofs.Limits.{cell-in}
+use Rattle.cell.proofs.CellLimits.{cell-in}
 use Rattle.cell.proofs.Events.{refused-same, settings-same}
 use Rattle.agreement.specs.EveryRun.{EveryRun}
-use Rattle.cell.proofs.Kept.{opening-in, kept-run}
-use Rattle.agreement.proofs.Numbers.{own-number, never-cell}
+use Rattle.cell.proofs.StaysWithin.{opening-in, kept-run}
+use Rattle.agreement.proofs.AnswerNumbers.{own-number, never-cell}
 use Rattle.agreement.proofs.Clocks.{clock-rises-run}
 
 settings-run : (c : Cell) (events : List Event) → run c events .settings ≡ c .settings

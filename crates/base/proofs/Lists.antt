@@ -9,7 +9,7 @@ use native.Mathlib.Numerals.{add-one}
 use native.Mathlib.Omega.{arith}
 use lib.ListN.{length, getD, set, drop, replicate, length-map, drop-of-length-le}
 use lib.Seq.{drop-cons}
-use Rattle.base.specs.Lists.{All, every}
+use Rattle.base.specs.Lists.{All, every, allOf}
 use Rattle.base.proofs.Tests.{both, and-true}
 
 -- ---- what holds of each element
@@ -45,6 +45,14 @@ by-place P (y ∷ xs) zero x (suc k) d p q = q
 by-place P (y ∷ xs) (suc h) x zero d p q = q
 by-place P (y ∷ xs) (suc h) x (suc k) d p q = by-place P xs h x k d (λ e. p (ap suc e)) q
 
+-- two stores at different places, in either order
+pub set-set : {A : Type 0} (xs : List A) (i j : ℕ) (a b : A) → (i ≡ j → ⊥) → set (set xs i a) j b ≡ set (set xs j b) i a
+set-set [] i j a b d = refl
+set-set (x ∷ xs) zero zero a b d = absurd (d refl)
+set-set (x ∷ xs) zero (suc j) a b d = refl
+set-set (x ∷ xs) (suc i) zero a b d = refl
+set-set (x ∷ xs) (suc i) (suc j) a b d = ap (λ ys. x ∷ ys) (set-set xs i j a b (λ e. d (ap suc e)))
+
 -- ---- from a place on
 
 -- the elements from i on are element i and the rest
@@ -55,20 +63,33 @@ from-place xs i d h = drop-cons xs i d h ∙ ap (λ (k : ℕ). getD xs i d ∷ d
 pub length-mapped : {A B : Type 0} (f : A → B) (l : List A) (n : ℕ) → length (map f l) ≡ n → length l ≡ n
 length-mapped f l n e = sym (length-map l f) ∙ e
 
--- ---- a walk that tests each element: its next turn, a turn that fails, its end, and what it tells of each place
+-- ---- a walk that tests each element: where it stands before place i, its next turn, a turn that fails, and its end
 
-module _ {A : Type 0} (f : ℕ → A → Bool) (xs : List A) (i : ℕ) (d : A) where
-  pub every-step : i < length xs → f i (getD xs i d) ≡ true → every f i (drop i xs) ≡ every f (i + 1) (drop (i + 1) xs)
+pub record Walked {A : Type 0} (f : ℕ → A → Bool) (n : ℕ) (xs : List A) (i : ℕ) : Type 0 where
+  pub long : length xs ≡ n
+  pub rest : every f 0 xs ≡ every f i (drop i xs)
+
+pub walked-first : {A : Type 0} (f : ℕ → A → Bool) (n : ℕ) (xs : List A) → length xs ≡ n → Walked f n xs 0
+walked-first f n xs e = record { long = e; rest = refl }
+
+module _ {A : Type 0} {f : ℕ → A → Bool} {n : ℕ} {xs : List A} {i : ℕ} (w : Walked f n xs i) where
+  module _ (d : A) (h : i < n) where
+    split : every f 0 xs ≡ every f i (getD xs i d ∷ drop (i + 1) xs)
+    split = w .rest ∙ ap (every f i) (from-place xs i d (omega (arith, h, w .long)))
+
+    pub walked-next : f i (getD xs i d) ≡ true → Walked f n xs (i + 1)
+    unfolding every
+    walked-next e = record { long = w .long; rest = split ∙ rw (e, add-one i) }
+
+    pub walked-fault : f i (getD xs i d) ≡ false → every f 0 xs ≡ false
+    unfolding every
+    walked-fault e = split ∙ rw e
+
+  pub walked-end : n ≤ i → every f 0 xs ≡ true
   unfolding every
-  every-step h e = ap (every f i) (from-place xs i d h) ∙ rw (e, add-one i)
+  walked-end h = let b : length xs ≤ i = omega (arith, h, w .long) in w .rest ∙ ap (every f i) (drop-of-length-le xs b)
 
-  pub every-fault : i < length xs → f i (getD xs i d) ≡ false → every f i (drop i xs) ≡ false
-  unfolding every
-  every-fault h e = ap (every f i) (from-place xs i d h) ∙ rw e
-
-pub every-end : {A : Type 0} (f : ℕ → A → Bool) (xs : List A) (i : ℕ) → length xs ≤ i → every f i (drop i xs) ≡ true
-unfolding every
-every-end f xs i h = rw (drop-of-length-le xs h)
+-- what such a walk tells of each place, and from each
 
 pub every-in : {A : Type 0} (f : ℕ → A → Bool) (i : ℕ) (xs : List A) (d : A) → every f i xs ≡ true → (k : ℕ) → k < length xs → f (i + k) (getD xs k d) ≡ true
 unfolding every
@@ -84,3 +105,22 @@ out-every f i [] d p = refl
 out-every f i (x ∷ xs) d p =
     and-true (f i x) _ (rw (add-zero i) at (p zero (omega arith)))
     (out-every f (suc i) xs d (λ k b. let g : i + suc k ≡ suc i + k = omega arith in rw g at (p (suc k) (omega (arith, b)))))
+
+-- ---- tests that all have to hold: what they tell of each, and from each
+
+abbrev pub Holding : List Bool → Type 0
+Holding bs = All (λ (b : Bool). b ≡ true) bs
+
+pub all-of-in : (bs : List Bool) → allOf bs ≡ true → Holding bs
+unfolding allOf All
+all-of-in [] e = tt
+all-of-in (b ∷ []) e = (e, tt)
+all-of-in (b ∷ (d ∷ bs)) e =
+    let p = both b (allOf (d ∷ bs)) e in
+    (p .0, all-of-in (d ∷ bs) (p .1))
+
+pub out-all-of : (bs : List Bool) → Holding bs → allOf bs ≡ true
+unfolding allOf All
+out-all-of [] p = refl
+out-all-of (b ∷ []) p = p .0
+out-all-of (b ∷ (d ∷ bs)) p = and-true b (allOf (d ∷ bs)) (p .0) (out-all-of (d ∷ bs) (p .1))

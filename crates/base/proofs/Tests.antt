@@ -1,12 +1,12 @@
 -- Laws of tests and of answers. Assumes nothing.
-use mathlib.Core.Path.{_≡_, refl, sym, ap, _∙_}
+use mathlib.Core.Path.{_≡_, refl, sym, _∙_, ap}
 use mathlib.Core.Bool.{Bool, true, false, cond, _&&_}
 use mathlib.Core.List.{List, [], _∷_, _++_}
 use Prim.Native.Nat.{ℕ}
 use native.Mathlib.Omega.{arith}
 use lib.Dec.{eqb}
 use borrow.Author.Tests.{eqb-true, eqb-false, ne-eqb}
-use Rattle.base.specs.Refusals.{done, Refusal, allHold, answer, unless, firstOf}
+use Rattle.base.specs.Refusals.{done, unless, firstOf}
 
 -- a result that a contract gives as x, and a test found to be y
 pub told : {A : Type 0} {r x y : A} → r ≡ x → r ≡ y → x ≡ y
@@ -28,37 +28,7 @@ pub by-test : {A : Type 0} (P : A → Type 0) (b : Bool) (x y : A) → (b ≡ tr
 by-test P true x y f g = f refl
 by-test P false x y f g = g refl
 
--- no refusal of the list has the number of `done`
-unfoldable pub numbered : {Field : Type 0} → List (Refusal Field) → Bool
-numbered [] = true
-numbered (r ∷ rs) = cond (eqb (r .number) 0) false (numbered rs)
-
-numbered-head : (a b : Bool) → cond a false b ≡ true → (a ≡ false) × (b ≡ true)
-numbered-head true b e = true-false (sym e)
-numbered-head false b e = (refl, e)
-
--- the answer of two lists, one after the other
-pub answer-append : {Field : Type 0} (rs qs : List (Refusal Field)) → numbered rs ≡ true → answer (rs ++ qs) ≡ cond (eqb (answer rs) 0) (answer qs) (answer rs)
-unfolding answer numbered
-answer-append [] qs e = refl
-answer-append (r ∷ rs) qs e =
-    let h = numbered-head (eqb (r .number) 0) (numbered rs) e in
-    go (allHold (r .tests)) (answer (rs ++ qs)) (answer qs) (answer rs) (r .number) (answer-append rs qs (h .1)) (h .0)
-  where
-    go : (b : Bool) (w q a k : ℕ) → w ≡ cond (eqb a 0) q a → eqb k 0 ≡ false → cond b w k ≡ cond (eqb (cond b a k) 0) q (cond b a k)
-    go true w q a k i h = i
-    go false w q a k i h = rw h
-
--- where the answer is 0, the first refusal's tests hold and so do the rest
-pub answer-passed : {Field : Type 0} (r : Refusal Field) (rs : List (Refusal Field)) → eqb (r .number) 0 ≡ false → answer (r ∷ rs) ≡ 0 → (allHold (r .tests) ≡ true) × (answer rs ≡ 0)
-unfolding answer
-answer-passed r rs h e = go (allHold (r .tests)) (answer rs) (r .number) h e
-  where
-    go : (b : Bool) (a k : ℕ) → eqb k 0 ≡ false → cond b a k ≡ 0 → (b ≡ true) × (a ≡ 0)
-    go true a k h e = (refl, e)
-    go false a k h e = true-false (sym (ap (λ (x : ℕ). eqb x 0) e) ∙ h)
-
--- ---- answers that name no field
+-- ---- answers
 
 -- where a list refuses nothing, its first number is 0, and the rest refuse nothing
 pub first-passed : (k : ℕ) (ks : List ℕ) → firstOf (k ∷ ks) ≡ done → (k ≡ done) × (firstOf ks ≡ done)
@@ -103,3 +73,37 @@ first-same k ks ls f = go (eqb k done) refl
 pub first-found : (k : ℕ) (ks : List ℕ) → (k ≡ done → ⊥) → firstOf (k ∷ ks) ≡ k
 unfolding firstOf
 first-found k ks n = rw (ne-eqb k done n)
+
+-- two lists, one after the other: the answer of the first stands for it
+pub first-append : (ks ls : List ℕ) → firstOf (ks ++ ls) ≡ firstOf (firstOf ks ∷ ls)
+unfolding firstOf
+first-append [] ls = refl
+first-append (k ∷ ks) ls = go (eqb k done) refl (first-append ks ls)
+  where
+    go : (b : Bool) → eqb k done ≡ b → firstOf (ks ++ ls) ≡ firstOf (firstOf ks ∷ ls) → cond b (firstOf (ks ++ ls)) k ≡ firstOf (cond b (firstOf ks) k ∷ ls)
+    go true p q = q
+    go false p q = rw p
+
+-- a test that holds refuses nothing
+pub unless-next : (b : Bool) (k : ℕ) (ks : List ℕ) → b ≡ true → firstOf (unless b k ∷ ks) ≡ firstOf ks
+unless-next b k ks e = first-next (unless b k) ks (ap (λ (x : Bool). unless x k) e)
+
+-- what holds of each number that a list of refusals may give holds of its answer
+
+pub unless-of : (P : ℕ → Type 0) (b : Bool) (k : ℕ) → P done → P k → P (unless b k)
+unless-of P b k z p = by-test P b done k (λ _. z) (λ _. p)
+
+pub none-of : (P : ℕ → Type 0) → P done → P (firstOf [])
+unfolding firstOf
+none-of P z = z
+
+pub last-of : (P : ℕ → Type 0) (k : ℕ) → P k → P (firstOf (k ∷ []))
+last-of P k p = rw (first-only k) p
+
+pub held : (P : ℕ → Type 0) (b : Bool) (k : ℕ) (ks : List ℕ) → b ≡ true → P (firstOf ks) → P (firstOf (unless b k ∷ ks))
+held P b k ks e p = rw (unless-next b k ks e) p
+
+pub next : (P : ℕ → Type 0) (b : Bool) (k : ℕ) (ks : List ℕ) → eqb k done ≡ false → P k → (b ≡ true → P (firstOf ks)) → P (firstOf (unless b k ∷ ks))
+unfolding firstOf
+next P true k ks n p f = f refl
+next P false k ks n p f = rw n p

@@ -1,4 +1,4 @@
--- What holds of each element of a list, as a claim and as a test. Assumes nothing.
+-- What holds of each element of a list, as a claim and as a test, and a list of tests that all have to hold. Assumes nothing.
 use Prim.Native.Nat.{ℕ, suc}
 use mathlib.Core.Bool.{Bool, true, _&&_}
 use mathlib.Core.List.{List, [], _∷_}
@@ -11,3 +11,9 @@ All P (x ∷ xs) = P x × All P xs
 unfoldable pub every : {A : Type 0} → (ℕ → A → Bool) → ℕ → List A → Bool
 every f i [] = true
 every f i (x ∷ xs) = f i x && every f (suc i) xs
+
+-- each of these tests holds
+unfoldable pub allOf : List Bool → Bool
+allOf [] = true
+allOf (b ∷ []) = b
+allOf (b ∷ (d ∷ bs)) = b && allOf (d ∷ bs)

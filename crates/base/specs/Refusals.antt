@@ -1,8 +1,9 @@
 -- The refusals of document 01 by number, and how an ordered list of them gives an answer. Assumes nothing.
 use Prim.Native.Nat.{ℕ}
-use mathlib.Core.Bool.{Bool, true, cond, _&&_}
-use mathlib.Core.List.{List, [], _∷_}
+use mathlib.Core.Bool.{Bool, cond}
+use mathlib.Core.List.{List, [], _∷_, map}
 use lib.Dec.{eqb}
+use Rattle.base.specs.Lists.{allOf}
 
 abbrev pub done : ℕ
 done = 0
@@ -52,6 +53,19 @@ refusedSpread = 14
 abbrev pub refusedClock : ℕ
 refusedClock = 15
 
+-- ---- answers
+
+-- 0 where a test holds, else the refusal's number
+abbrev pub unless : Bool → ℕ → ℕ
+unless b k = cond b done k
+
+-- the first number that is not 0, or 0
+unfoldable pub firstOf : List ℕ → ℕ
+firstOf [] = done
+firstOf (k ∷ ks) = cond (eqb k done) (firstOf ks) k
+
+-- ---- refusals that name their fields
+
 -- what has to hold of a field
 pub record Test (Field : Type 0) : Type 0 where
   pub field : Field
@@ -68,23 +82,9 @@ pub record Refusal (Field : Type 0) : Type 0 where
 abbrev pub refusal : {Field : Type 0} → ℕ → List (Test Field) → Refusal Field
 refusal k ts = record { number = k; tests = ts }
 
-unfoldable pub allHold : {Field : Type 0} → List (Test Field) → Bool
-allHold [] = true
-allHold (t ∷ []) = t .holds
-allHold (t ∷ (u ∷ ts)) = t .holds && allHold (u ∷ ts)
+abbrev pub allHold : {Field : Type 0} → List (Test Field) → Bool
+allHold ts = allOf (map (λ t. t .holds) ts)
 
 -- the number of the first refusal that applies, or 0 (done)
-unfoldable pub answer : {Field : Type 0} → List (Refusal Field) → ℕ
-answer [] = done
-answer (r ∷ rs) = cond (allHold (r .tests)) (answer rs) (r .number)
-
--- ---- answers that name no field
-
--- 0 where a test holds, else the refusal's number
-abbrev pub unless : Bool → ℕ → ℕ
-unless b k = cond b done k
-
--- the first number that is not 0, or 0
-unfoldable pub firstOf : List ℕ → ℕ
-firstOf [] = done
-firstOf (k ∷ ks) = cond (eqb k done) (firstOf ks) k
+abbrev pub answer : {Field : Type 0} → List (Refusal Field) → ℕ
+answer rs = firstOf (map (λ r. unless (allHold (r .tests)) (r .number)) rs)

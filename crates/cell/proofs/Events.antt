@@ -13,7 +13,7 @@ use Rattle.base.proofs.Tests.{by-test}
 use Rattle.quorum.specs.Sets.{Member, members}
 use Rattle.quorum.proofs.Laws.{members-all}
 use Rattle.message.specs.declared.Message.{Message}
-use Rattle.message.specs.Message.{messageTo}
+use Rattle.message.specs.Message.{addressedTo}
 use Rattle.host.specs.declared.Sent.{Sent}
 use Rattle.slots.specs.declared.Slot.{Slot}
 use Rattle.slots.specs.declared.Content.{Content}
@@ -23,17 +23,17 @@ use Rattle.cell.specs.declared.Cell.{Cell}
 use Rattle.cell.specs.declared.Event.{Event}
 use Rattle.cell.specs.declared.Event.the-variants.{AdvanceAll, AdvanceOne, Start, Deliver, Lose, Repeat, Restart}
 use Rattle.cell.specs.declared.Answered.{Answered}
-use Rattle.cell.specs.Limits.{contentAt}
-use Rattle.cell.specs.Events.{answered, cellOf, messagesIn, sentTo, stepped, advancedAll, advancedOne, deliverStep, countedFor, deliverFull, delivered, repeated, refusalOf, afterOf, eventOf}
+use Rattle.cell.specs.CellLimits.{contentAt}
+use Rattle.cell.specs.Events.{answeredWith, cellOf, messagesIn, sentTo, stepped, advancedAll, advancedOne, deliverStep, countedFor, deliverFull, delivered, repeated, refusalOf, afterOf, eventOf}
 
 -- ---- both outcomes
 
 -- what holds of both outcomes of an event holds of it
-pub by-outcome : (P : Answered → Type 0) (c : Cell) (e : Event) → (refusalOf c e ≡ done → P (answered done (afterOf c e)))
-    → ((refusalOf c e ≡ done → ⊥) → P (answered (refusalOf c e) c)) → P (eventOf c e)
+pub by-outcome : (P : Answered → Type 0) (c : Cell) (e : Event) → (refusalOf c e ≡ done → P (answeredWith done (afterOf c e)))
+    → ((refusalOf c e ≡ done → ⊥) → P (answeredWith (refusalOf c e) c)) → P (eventOf c e)
 unfolding eventOf
 by-outcome P c e f g =
-    by-test P (eqb (refusalOf c e) done) (answered done (afterOf c e)) (answered (refusalOf c e) c)
+    by-test P (eqb (refusalOf c e) done) (answeredWith done (afterOf c e)) (answeredWith (refusalOf c e) c)
     (λ p. f (eqb-true (refusalOf c e) done p)) (λ p. g (eqb-false (refusalOf c e) done p))
 
 pub answer-is : (c : Cell) (e : Event) → eventOf c e .answer ≡ refusalOf c e
@@ -76,7 +76,7 @@ length-sent n ss Sent.Nothing receivers = refl
 length-sent n ss (Sent.One m) receivers = length-placed-each ss m (members n receivers)
 
 pub holds-sent : (P : Message → Type 0) (n : ℕ) (ss : List Slot) (sent : Sent) (receivers : ℕ) → Holds P ss
-    → ((m : Message) (h : ℕ) → sent ≡ Sent.One m → Member n receivers h → P (messageTo m h)) → Holds P (sentTo n ss sent receivers)
+    → ((m : Message) (h : ℕ) → sent ≡ Sent.One m → Member n receivers h → P (addressedTo m h)) → Holds P (sentTo n ss sent receivers)
 unfolding sentTo
 holds-sent P n ss Sent.Nothing receivers p f = p
 holds-sent P n ss (Sent.One m) receivers p f = holds-placed-each P ss m (members n receivers) p (all-map (members n receivers) (λ h i. f m h refl i) (members-all n receivers))

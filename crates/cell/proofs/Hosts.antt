@@ -2,24 +2,21 @@
 -- `apply_within`, which walk them, proofs above this file speak of hosts by `hostAt` and `withHost` alone. Assumes nothing.
 use mathlib.Core.Path.{_≡_, refl, _∙_}
 use mathlib.Core.Bool.{true}
-use mathlib.Core.List.{List, [], _∷_, map}
-use Prim.Native.Nat.{ℕ, zero, suc, _+_, _≤_, _<_}
-use native.Mathlib.Nat.{not-suc-le-zero, le-of-suc-le-suc}
+use Prim.Native.Nat.{ℕ, _+_, _≤_, _<_}
 use native.Mathlib.Omega.{arith}
-use lib.ListN.{length, getD, take, length-set}
+use lib.ListN.{length, length-set}
 use lib.Seq.{getD-set-same, set-getD}
-use Rattle.base.specs.Refusals.{done, firstOf}
+use Rattle.base.specs.Refusals.{done}
 use Rattle.base.proofs.Lists.{by-place}
-use Rattle.base.proofs.Tests.{first-passed, first-of}
-use Rattle.state.specs.Limits.{settingsOk}
+use Rattle.state.specs.StateLimits.{settingsOk}
 use Rattle.host.specs.declared.Host.{Host}
-use Rattle.host.specs.Steps.{advanceRefusal, advanced}
-use Rattle.host.proofs.Limits.{settings-in}
+use Rattle.host.specs.Steps.{advanceRefusal, advancedHost}
+use Rattle.state.proofs.StateLimits.{settings-in}
 use Rattle.places.specs.Places.{blankHost, advancesRefusal}
-use Rattle.places.proofs.Limits.{clocks-in, out-clocks}
-use Rattle.places.proofs.Each.{length-each, each-below, each-above}
+use Rattle.places.proofs.PlaceLimits.{clocks-in, out-clocks}
+use Rattle.places.proofs.Each.{length-each, each-below, each-above, first-each, each-of}
 use Rattle.cell.specs.declared.Cell.{Cell}
-use Rattle.cell.specs.Limits.{hostAt, withHost, clocksNear}
+use Rattle.cell.specs.CellLimits.{hostAt, withHost, clocksNear}
 use Rattle.cell.specs.Events.{hostsRefusal, advancedAll}
 
 -- nine places and 96 slots
@@ -49,30 +46,18 @@ host-keeps c h = rw (set-getD (c .hosts) h blankHost)
 
 -- ---- all hosts advanced
 
-first-each : (f : Host → ℕ) (n : ℕ) (hs : List Host) → firstOf (map f (take n hs)) ≡ done → (k : ℕ) → k < n → k < length hs → f (getD hs k blankHost) ≡ done
-first-each f zero hs e k a b = absurd (not-suc-le-zero a)
-first-each f (suc n) [] e k a b = absurd (not-suc-le-zero b)
-first-each f (suc n) (h ∷ hs) e zero a b = first-passed (f h) (map f (take n hs)) e .0
-first-each f (suc n) (h ∷ hs) e (suc k) a b = first-each f n hs (first-passed (f h) (map f (take n hs)) e .1) k (le-of-suc-le-suc a) (le-of-suc-le-suc b)
-
-each-of : (P : ℕ → Type 0) (f : Host → ℕ) (n : ℕ) (hs : List Host) → P done → ((k : ℕ) → k < n → P (f (getD hs k blankHost))) → P (firstOf (map f (take n hs)))
-unfolding firstOf
-each-of P f zero hs z p = z
-each-of P f (suc n) [] z p = z
-each-of P f (suc n) (h ∷ hs) z p = first-of P (f h) (map f (take n hs)) (p zero (omega arith)) (λ _. each-of P f n hs z (λ k b. p (suc k) (omega (arith, b))))
-
 module _ (c : Cell) (d : ℕ) where
   pub sized-all : Sized c → Sized (advancedAll c d)
   unfolding advancedAll
-  sized-all z = record { hosts = length-each (c .settings .n) (λ h. advanced h d) (c .hosts) ∙ z .hosts; slots = z .slots }
+  sized-all z = record { hosts = length-each (c .settings .n) (λ h. advancedHost h d) (c .hosts) ∙ z .hosts; slots = z .slots }
 
-  pub all-below : Sized c → c .settings .n ≤ 9 → (k : ℕ) → k < c .settings .n → hostAt (advancedAll c d) k ≡ advanced (hostAt c k) d
+  pub all-below : Sized c → c .settings .n ≤ 9 → (k : ℕ) → k < c .settings .n → hostAt (advancedAll c d) k ≡ advancedHost (hostAt c k) d
   unfolding advancedAll
-  all-below z few k b = each-below (c .settings .n) (λ h. advanced h d) (c .hosts) k blankHost b (omega (arith, z .hosts))
+  all-below z few k b = each-below (c .settings .n) (λ h. advancedHost h d) (c .hosts) k blankHost b (omega (arith, z .hosts))
 
   pub all-above : (k : ℕ) → c .settings .n ≤ k → hostAt (advancedAll c d) k ≡ hostAt c k
   unfolding advancedAll
-  all-above k b = each-above (c .settings .n) (λ h. advanced h d) (c .hosts) k blankHost b
+  all-above k b = each-above (c .settings .n) (λ h. advancedHost h d) (c .hosts) k blankHost b
 
   -- where an advance of all is not refused, no host refuses it
   pub all-passed : Sized c → c .settings .n ≤ 9 → hostsRefusal c d ≡ done → (k : ℕ) → k < c .settings .n → advanceRefusal (c .settings) (hostAt c k) d ≡ done

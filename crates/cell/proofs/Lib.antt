@@ -1,4 +1,4 @@
 pub mod Hosts
-pub mod Limits
+pub mod CellLimits
 pub mod Events
-pub mod Kept
+pub mod StaysWithin

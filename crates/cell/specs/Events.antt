@@ -4,15 +4,15 @@ use Prim.Native.Nat.{ℕ}
 use mathlib.Core.Bool.{cond}
 use mathlib.Core.List.{List, [], _∷_}
 use lib.Dec.{ltb, leb, eqb}
-use Rattle.base.specs.Refusals.{done, unless, firstOf, refusedCell, refusedHost, refusedTick, refusedSpread}
-use Rattle.quorum.specs.Sets.{size}
+use Rattle.base.specs.Refusals.{done, unless, firstOf, test, Refusal, refusal, answer, refusedCell, refusedHost, refusedTick, refusedSpread}
+use Rattle.quorum.specs.Sets.{sizeOf}
 use Rattle.message.specs.declared.Message.{Message}
-use Rattle.message.specs.Message.{lastTick, numbersOf}
+use Rattle.message.specs.Message.{lastTick, targetOf}
 use Rattle.state.specs.declared.Settings.{Settings}
-use Rattle.state.specs.Limits.{settingsOk}
+use Rattle.state.specs.StateLimits.{OpeningField, openingClock, settingsTests}
 use Rattle.host.specs.declared.Sent.{Sent}
 use Rattle.host.specs.declared.Stepped.{Stepped}
-use Rattle.host.specs.Steps.{advanceRefusal, advanced, restartRefusal, restarted, startRefusal, started, acted}
+use Rattle.host.specs.Steps.{advanceRefusal, advancedHost, restartRefusal, restartedHost, startRefusal, onStart, onDelivery}
 use Rattle.places.specs.Places.{newHosts, advancesRefusal, advancedHosts}
 use Rattle.slots.specs.declared.Slot.{Slot}
 use Rattle.slots.specs.declared.Content.{Content}
@@ -21,12 +21,12 @@ use Rattle.cell.specs.declared.Cell.{Cell}
 use Rattle.cell.specs.declared.Event.{Event}
 use Rattle.cell.specs.declared.Event.the-variants.{AdvanceAll, AdvanceOne, Start, Deliver, Lose, Repeat, Restart}
 use Rattle.cell.specs.declared.Answered.{Answered}
-use Rattle.cell.specs.Limits.{hostAt, withHost, contentAt, clocksNear, cellOk}
+use Rattle.cell.specs.CellLimits.{hostAt, withHost, contentAt, clocksNear, cellOk}
 
 -- ---- parts of an event
 
-abbrev pub answered : ℕ → Cell → Answered
-answered a c = record { answer = a; settings = c .settings; hosts = c .hosts; slots = c .slots }
+abbrev pub answeredWith : ℕ → Cell → Answered
+answeredWith a c = record { answer = a; settings = c .settings; hosts = c .hosts; slots = c .slots }
 
 -- the cell beside an answer
 abbrev pub cellOf : Answered → Cell
@@ -34,7 +34,7 @@ cellOf a = record { settings = a .settings; hosts = a .hosts; slots = a .slots }
 
 -- what was done where nothing was refused, else what was handed in with the refusal's number
 abbrev pub answerWith : ℕ → Cell → Cell → Answered
-answerWith a c after = cond (eqb a done) (answered done after) (answered a c)
+answerWith a c after = cond (eqb a done) (answeredWith done after) (answeredWith a c)
 
 abbrev pub withSlots : Cell → List Slot → Cell
 withSlots c ss = record { settings = c .settings; hosts = c .hosts; slots = ss }
@@ -46,7 +46,7 @@ hostRefusal c h = unless (ltb h (c .settings .n)) refusedHost
 -- how many messages a step sends: one to each of its receivers, all of them below n
 unfoldable pub messagesIn : Sent → ℕ → ℕ
 messagesIn Sent.Nothing receivers = 0
-messagesIn (Sent.One m) receivers = size receivers
+messagesIn (Sent.One m) receivers = sizeOf receivers
 
 -- 13, for what a step sends
 abbrev pub stepFull : List Slot → Stepped → ℕ
@@ -63,19 +63,22 @@ stepped c h ss step = withSlots (withHost c h (step .host)) (sentTo (c .settings
 
 -- ---- opening: 1, 6
 
+abbrev pub openingRefusals : Settings → ℕ → List (Refusal OpeningField)
+openingRefusals s clock = refusal refusedCell (settingsTests s) ∷ refusal refusedTick (test openingClock (leb clock lastTick) ∷ []) ∷ []
+
 unfoldable pub openingRefusal : Settings → ℕ → ℕ
-openingRefusal s clock = firstOf (unless (settingsOk s) refusedCell ∷ unless (leb clock lastTick) refusedTick ∷ [])
+openingRefusal s clock = answer (openingRefusals s clock)
 
 -- 'sets every clock to one given tick, and every host waits as after a restart'
-unfoldable pub opened : Settings → ℕ → Cell
-opened s clock = record { settings = s; hosts = newHosts s clock; slots = noMessages }
+unfoldable pub openedWith : Settings → ℕ → Cell
+openedWith s clock = record { settings = s; hosts = newHosts s clock; slots = noMessages }
 
 -- 'a refused opening hands back the cell opened with n 1, T 1, S 0, clock 0'
 abbrev pub leastSettings : Settings
 leastSettings = record { n = 1; longest = 1; spread = 0 }
 
 unfoldable pub openingOf : Settings → ℕ → Answered
-openingOf s clock = answerWith (openingRefusal s clock) (opened leastSettings 0) (opened s clock)
+openingOf s clock = answerWith (openingRefusal s clock) (openedWith leastSettings 0) (openedWith s clock)
 
 -- ---- advance all by d: 1, 15
 
@@ -92,7 +95,7 @@ advancedAll c d = record { settings = c .settings; hosts = advancedHosts (c .set
 -- ---- advance one by d: 1, 5, 15, 14
 
 unfoldable pub advancedOne : Cell → ℕ → ℕ → Cell
-advancedOne c h d = withHost c h (advanced (hostAt c h) d)
+advancedOne c h d = withHost c h (advancedHost (hostAt c h) d)
 
 unfoldable pub advanceOneRefusal : Cell → ℕ → ℕ → ℕ
 advanceOneRefusal c h d =
@@ -107,7 +110,7 @@ advanceOneRefusal c h d =
 -- ---- start at a host: 1, 5, then the host's own, 9, 11, 10, then 13
 
 abbrev pub startStep : Cell → ℕ → ℕ → Stepped
-startStep c h d = started (c .settings) (hostAt c h) d
+startStep c h d = onStart (c .settings) (hostAt c h) d
 
 unfoldable pub startAtRefusal : Cell → ℕ → ℕ → ℕ
 startAtRefusal c h d =
@@ -121,11 +124,8 @@ startAtRefusal c h d =
 
 -- ---- deliver a slot: 1, 12, 13, 'counting the freed slot as empty'
 
-abbrev pub targetOf : Message → ℕ
-targetOf m = numbersOf m .target
-
 abbrev pub deliverStep : Cell → Message → Stepped
-deliverStep c m = acted (c .settings) (hostAt c (targetOf m)) m
+deliverStep c m = onDelivery (c .settings) (hostAt c (targetOf m)) m
 
 -- the slots of which 13 counts the empty ones
 abbrev pub countedFor : Cell → ℕ → List Slot
@@ -181,7 +181,7 @@ afterOf c (Start h d) = stepped c h (c .slots) (startStep c h d)
 afterOf c (Deliver i) = delivered c i (contentAt c i)
 afterOf c (Lose i) = withSlots c (freed (c .slots) i)
 afterOf c (Repeat i) = repeated c (contentAt c i)
-afterOf c (Restart h) = withHost c h (restarted (c .settings) (hostAt c h))
+afterOf c (Restart h) = withHost c h (restartedHost (c .settings) (hostAt c h))
 
 -- a refused event changes nothing
 unfoldable pub eventOf : Cell → Event → Answered

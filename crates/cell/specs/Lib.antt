@@ -1,3 +1,3 @@
-pub mod Limits
+pub mod CellLimits
 pub mod Events
 pub mod Runs

@@ -1,12 +1,9 @@
 // The cell as a value: nine places for hosts, and the messages under way in 96 slots. Its limits, and opening; what each event does to
 // it is defined here (specs/Events.antt), and carried out by the crate `event`.
 ghost use mathlib.Core.Path.{_≡_};
-ghost use mathlib.Core.Bool.{true};
-ghost use Prim.Native.Nat.{_≤_};
-ghost use Rattle.message.specs.Message.{lastTick};
-ghost use Rattle.state.specs.Limits.{settingsOk};
-ghost use Rattle.cell.specs.Limits.{cellOk};
-ghost use Rattle.cell.specs.Events.{answered, cellOf, leastSettings, opened, openingOf};
+ghost use Rattle.places.specs.Parts.{Opens};
+ghost use Rattle.cell.specs.CellLimits.{cellOk};
+ghost use Rattle.cell.specs.Events.{answeredWith, cellOf, leastSettings, openedWith, openingOf};
 use base::DONE;
 use base::REFUSED_CELL;
 use base::REFUSED_TICK;
@@ -43,7 +40,7 @@ pub struct Answered {
 }
 
 fn answered_with(answer: u8, c: Cell) -> Answered
-    ensures { λ r. ⌜ r ≡ answered answer c ⌝ }
+    ensures { λ r. ⌜ r ≡ answeredWith answer c ⌝ }
 {
     let settings = c.settings;
     let hosts = c.hosts;
@@ -57,8 +54,8 @@ fn answered_with(answer: u8, c: Cell) -> Answered
 }
 
 fn opened_with(s: Settings, clock: u64) -> Cell
-    requires { ⌜ (settingsOk s ≡ true) × (clock ≤ lastTick) ⌝ }
-    ensures { λ r. ⌜ r ≡ opened s clock ⌝ }
+    requires { ⌜ Opens s clock ⌝ }
+    ensures { λ r. ⌜ r ≡ openedWith s clock ⌝ }
 {
     let hosts = places::new_hosts(s, clock);
     let slots = slots::no_messages();
@@ -71,7 +68,7 @@ fn opened_with(s: Settings, clock: u64) -> Cell
 
 // What a refused opening hands back.
 fn least() -> Cell
-    ensures { λ r. ⌜ r ≡ opened leastSettings 0 ⌝ }
+    ensures { λ r. ⌜ r ≡ openedWith leastSettings 0 ⌝ }
 {
     opened_with(
         Settings {
@@ -116,6 +113,6 @@ impl Answered {
             return false;
         }
         let slots = self.slots;
-        slots::slots_ok(s.n, slots)
+        slots::slots_ok(state::sizes_of(s), slots)
     }
 }

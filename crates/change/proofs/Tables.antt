@@ -10,19 +10,21 @@ use lib.ListN.{getD, set}
 use lib.Seq.{set-getD}
 use borrow.Author.Tests.{lt-ltb, le-ltb, le-leb, lt-leb, ne-eqb}
 use Rattle.base.specs.Refusals.{done, unless, firstOf, refusedCell, refusedHost, refusedSlot, refusedSpread, refusedFull}
-use Rattle.base.proofs.Tests.{true-false, first-passed, first-next, first-only, first-same, first-found}
-use Rattle.quorum.specs.Sets.{single}
+use Rattle.base.proofs.Tests.{true-false, first-passed, first-next, first-only, first-same, first-found, unless-next}
+use Rattle.quorum.specs.Sets.{singleOf}
 use Rattle.quorum.proofs.Laws.{members-single}
 use Rattle.quorum.proofs.Majorities.{size-single}
 use Rattle.message.specs.declared.Message.{Message}
-use Rattle.message.specs.Message.{messageTo}
-use Rattle.message.proofs.Laws.{message-numbers}
+use Rattle.message.specs.Message.{addressedTo, targetOf}
+use Rattle.message.proofs.Laws.{message-numbers, target-in}
+use Rattle.state.specs.StateLimits.{sizesOf}
 use Rattle.host.specs.declared.Host.{Host}
 use Rattle.host.specs.declared.Sent.{Sent}
 use Rattle.host.specs.declared.Stepped.{Stepped}
-use Rattle.host.specs.Steps.{refused, quiet, sending, advanceRefusal, advanceOf, advanced, restartRefusal, restartOf, restarted, startRefusal, startOf, started, messageRefusal, messageStep}
-use Rattle.host.proofs.Kept.{answer-advance, answer-restart, answer-start, answer-message, advance-done, restart-done, start-done, message-done, message-passed}
-use Rattle.host.proofs.Stays.{stays-started, stays-acted}
+use Rattle.host.specs.Steps.{refusedWith, quietWith, sendingWith, advanceRefusal, advanceOf, advancedHost, restartRefusal, restartOf, restartedHost, startRefusal, startOf, onStart, receiveRefusal, receiveOf}
+use Rattle.host.proofs.Refused.{message-passed}
+use Rattle.host.proofs.Within.{lawful-advance, lawful-restart, lawful-start, lawful-message}
+use Rattle.host.proofs.Outcomes.{stays-start, stays-delivery}
 use Rattle.slots.specs.declared.Slot.{Slot}
 use Rattle.slots.specs.declared.Content.{Content}
 use Rattle.slots.specs.Slots.{slotCount, emptySlot, isEmpty, slotRefusal, empties, fullRefusal, placed, placedEach, placedTo, freed}
@@ -30,11 +32,11 @@ use Rattle.slots.specs.Parts.{slotAfter}
 use Rattle.cell.specs.declared.Cell.{Cell}
 use Rattle.cell.specs.declared.Event.{Event}
 use Rattle.cell.specs.declared.Event.the-variants.{AdvanceAll, AdvanceOne, Start, Deliver, Lose, Repeat, Restart}
-use Rattle.cell.specs.Limits.{hostAt, withHost, contentAt, clocksNear, cellOk}
-use Rattle.cell.specs.Events.{answered, answerWith, withSlots, hostRefusal, messagesIn, stepFull, sentTo, stepped, hostsRefusal, advanceAllRefusal, advancedAll, advanceOneRefusal, advancedOne, startStep, startAtRefusal, targetOf, deliverStep, deliverFull, deliverRefusal, delivered, loseRefusal, repeatRefusal, repeated, restartAtRefusal, refusalOf, afterOf, eventOf}
+use Rattle.cell.specs.CellLimits.{hostAt, withHost, contentAt, clocksNear, cellOk}
+use Rattle.cell.specs.Events.{answeredWith, answerWith, withSlots, hostRefusal, messagesIn, stepFull, sentTo, stepped, hostsRefusal, advanceAllRefusal, advancedAll, advanceOneRefusal, advancedOne, startStep, startAtRefusal, deliverStep, deliverFull, deliverRefusal, delivered, loseRefusal, repeatRefusal, repeated, restartAtRefusal, refusalOf, afterOf, eventOf}
 use Rattle.cell.proofs.Hosts.{Sized, sized-host, host-keeps, out-near}
-use Rattle.cell.proofs.Limits.{cell-in, n-of, message-of, target-in}
-use Rattle.cell.proofs.Kept.{host-passed, still-near}
+use Rattle.cell.proofs.CellLimits.{cell-in, n-of, message-of}
+use Rattle.cell.proofs.StaysWithin.{host-passed, still-near}
 use Rattle.change.specs.declared.Change.{Change}
 use Rattle.change.specs.Parts.{change, stepOf, isAll, ticksOf, slotOf, targetIn, hostOf, deliverChange, loseChange, repeatChange, changeOf, slotsAfter, changeRefusal, changed}
 
@@ -45,20 +47,20 @@ keeps : (ss : List Slot) (i : ℕ) → set ss i (slotAfter false (getD ss i empt
 unfolding slotAfter
 keeps ss i = set-getD ss i emptySlot
 
-quiet-full : (ss : List Slot) (h : Host) → stepFull ss (quiet h) ≡ done
+quiet-full : (ss : List Slot) (h : Host) → stepFull ss (quietWith h) ≡ done
 unfolding messagesIn
 quiet-full ss h = rw (le-leb 0 (empties ss) (omega arith))
 
 -- a message placed to its own target alone
-own-target : (m : Message) → messageTo m (targetOf m) ≡ m
-unfolding messageTo
+own-target : (m : Message) → addressedTo m (targetOf m) ≡ m
+unfolding addressedTo
 own-target m = message-numbers m
 
-own-sent : (n : ℕ) (ss : List Slot) (m : Message) → targetOf m < n → sentTo n ss (Sent.One m) (single (targetOf m)) ≡ placed ss m
+own-sent : (n : ℕ) (ss : List Slot) (m : Message) → targetOf m < n → sentTo n ss (Sent.One m) (singleOf (targetOf m)) ≡ placed ss m
 unfolding sentTo placedEach
 own-sent n ss m b = rw (members-single n (targetOf m) b, own-target m)
 
-own-full : (ss : List Slot) (h : Host) (m : Message) → stepFull ss (sending h m (single (targetOf m))) ≡ fullRefusal 1 ss
+own-full : (ss : List Slot) (h : Host) (m : Message) → stepFull ss (sendingWith h m (singleOf (targetOf m))) ≡ fullRefusal 1 ss
 unfolding messagesIn
 own-full ss h m = rw (size-single (targetOf m))
 
@@ -83,7 +85,7 @@ past-refusal c (Lose i) o = rw o
 past-refusal c (Repeat i) o = rw o
 past-refusal c (Restart h) o = rw o
 
-pub past-limits : (c : Cell) (e : Event) → cellOk c ≡ false → answered refusedCell c ≡ eventOf c e
+pub past-limits : (c : Cell) (e : Event) → cellOk c ≡ false → answeredWith refusedCell c ≡ eventOf c e
 unfolding eventOf
 past-limits c e o = sym (ap (λ (k : ℕ). answerWith k c (afterOf c e)) (past-refusal c e o))
 
@@ -93,7 +95,7 @@ target-small c i o = go (contentAt c i) refl
   where
     go : (t : Content) → contentAt c i ≡ t → targetIn t < 16
     go Content.Empty e = omega arith
-    go (Content.One m) e = omega (arith, n-of c o .few, target-in (c .settings .n) m (message-of c i m o e))
+    go (Content.One m) e = omega (arith, n-of c o .few, target-in (sizesOf (c .settings)) m (message-of c i m o e))
 
 -- ---- the rows, of a cell within its limits
 
@@ -108,17 +110,16 @@ module _ (c : Cell) (z : Sized c) (o : cellOk c ≡ true) where
 
   near-passed : (i h : ℕ) (k : Change) → clocksNear (withHost c h (k .host)) ≡ true → firstOf (tail i h k) ≡ stepFull (slotsAfter c i k) (stepOf k)
   near-passed i h k e =
-      first-next (unless (clocksNear (withHost c h (k .host))) refusedSpread) _ (ap (λ (b : Bool). unless b refusedSpread) e)
-      ∙ first-only (stepFull (slotsAfter c i k) (stepOf k))
+      unless-next (clocksNear (withHost c h (k .host))) refusedSpread _ e ∙ first-only (stepFull (slotsAfter c i k) (stepOf k))
 
   still-passed : (i h : ℕ) (k : Change) → k .host .clock ≡ hostAt c h .clock → firstOf (tail i h k) ≡ stepFull (slotsAfter c i k) (stepOf k)
   still-passed i h k t = near-passed i h k (still-clocks h (k .host) t)
 
   cell-passed : (ks : List ℕ) → firstOf (unless (cellOk c) refusedCell ∷ ks) ≡ firstOf ks
-  cell-passed ks = first-next (unless (cellOk c) refusedCell) ks (ap (λ (b : Bool). unless b refusedCell) o)
+  cell-passed ks = unless-next (cellOk c) refusedCell ks o
 
   host-let : (h : ℕ) (ks : List ℕ) → h < c .settings .n → firstOf (hostRefusal c h ∷ ks) ≡ firstOf ks
-  host-let h ks b = first-next (hostRefusal c h) ks (ap (λ (x : Bool). unless x refusedHost) (lt-ltb h (c .settings .n) b))
+  host-let h ks b = unless-next (ltb h (c .settings .n)) refusedHost ks (lt-ltb h (c .settings .n) b)
 
   -- an event at a host
   host-row : (h : ℕ) (k : Change) (r : ℕ) (ks : List ℕ) → k .answer ≡ r → (r ≡ done → firstOf ks ≡ firstOf (tail 0 h k))
@@ -128,6 +129,10 @@ module _ (c : Cell) (z : Sized c) (o : cellOk c ≡ true) where
       cell-passed _
       ∙ first-same (hostRefusal c h) (r ∷ ks) (k .answer ∷ tail 0 h k) (λ _. first-same r ks (tail 0 h k) f ∙ ap (λ (x : ℕ). firstOf (x ∷ tail 0 h k)) (sym e))
       ∙ sym (first-next (unless (ltb 0 slotCount) refusedSlot) _ refl)
+
+  host-after : (h r : ℕ) (ks : List ℕ) (step did : Stepped) → (r ≡ done → step ≡ did) → firstOf (unless (cellOk c) refusedCell ∷ hostRefusal c h ∷ r ∷ ks) ≡ done
+      → stepped c h (c .slots) did ≡ changed c 0 h (change step false)
+  host-after h r ks step did f e = rw (f (first-passed r ks (host-passed c h _ e .1) .0), keeps (c .slots) 0)
 
   -- an event at a slot: 12 where it is empty
   slot-row : (i h : ℕ) (t : Content) (k : Change) (ks : List ℕ) → h < c .settings .n → firstOf (unless (not (isEmpty t)) refusedSlot ∷ ks) ≡ firstOf (k .answer ∷ tail i h k)
@@ -143,7 +148,7 @@ module _ (c : Cell) (z : Sized c) (o : cellOk c ≡ true) where
   some = n-of c o .some
 
   -- nothing moves
-  still-changed : (i a : ℕ) → changed c i 0 (change (refused a (hostAt c 0)) false) ≡ c
+  still-changed : (i a : ℕ) → changed c i 0 (change (refusedWith a (hostAt c 0)) false) ≡ c
   unfolding stepped sentTo
   still-changed i a = rw (keeps (c .slots) i, host-keeps c 0)
 
@@ -154,47 +159,41 @@ module _ (c : Cell) (z : Sized c) (o : cellOk c ≡ true) where
   one-refusal h d =
       let s = c .settings in
       let x = hostAt c h in
-      host-row h (change (advanceOf s x d) false) (advanceRefusal s x d) _ (answer-advance s x d)
-      (λ e. first-same (unless (clocksNear (withHost c h (advanced x d))) refusedSpread) [] _ (λ _. sym (first-next _ [] (quiet-full (slotsAfter c 0 (change (quiet (advanced x d)) false)) (advanced x d))))
-      ∙ ap (λ (y : Stepped). firstOf (tail 0 h (change y false))) (sym (advance-done s x d e)))
+      host-row h (change (advanceOf s x d) false) (advanceRefusal s x d) _ (lawful-advance s x d .answer)
+      (λ e. first-same (unless (clocksNear (withHost c h (advancedHost x d))) refusedSpread) [] _ (λ _. sym (first-next _ [] (quiet-full (slotsAfter c 0 (change (quietWith (advancedHost x d)) false)) (advancedHost x d))))
+      ∙ ap (λ (y : Stepped). firstOf (tail 0 h (change y false))) (sym (lawful-advance s x d .done e)))
 
   one-after : (h d : ℕ) → advanceOneRefusal c h d ≡ done → advancedOne c h d ≡ changed c 0 h (change (advanceOf (c .settings) (hostAt c h) d) false)
   unfolding advanceOneRefusal advancedOne stepped sentTo
-  one-after h d e =
-      let p = first-passed (advanceRefusal (c .settings) (hostAt c h) d) _ (host-passed c h _ e .1) in
-      rw (advance-done (c .settings) (hostAt c h) d (p .0), keeps (c .slots) 0)
+  one-after h d = host-after h _ _ _ (quietWith (advancedHost (hostAt c h) d)) (lawful-advance (c .settings) (hostAt c h) d .done)
 
   start-refusal : (h d : ℕ) → startAtRefusal c h d ≡ changeRefusal c 0 h (change (startOf (c .settings) (hostAt c h) d) false)
   unfolding startAtRefusal
   start-refusal h d =
       let s = c .settings in
       let x = hostAt c h in
-      let step = started s x d in
-      host-row h (change (startOf s x d) false) (startRefusal s x d) _ (answer-start s x d)
+      let step = onStart s x d in
+      host-row h (change (startOf s x d) false) (startRefusal s x d) _ (lawful-start s x d .answer)
       (λ e. first-only (stepFull (c .slots) step) ∙ ap (λ (ss : List Slot). stepFull ss step) (sym (keeps (c .slots) 0))
-      ∙ sym (still-passed 0 h (change step false) (stays-started s x d .clock))
-      ∙ ap (λ (y : Stepped). firstOf (tail 0 h (change y false))) (sym (start-done s x d e)))
+      ∙ sym (still-passed 0 h (change step false) (stays-start s x d .clock))
+      ∙ ap (λ (y : Stepped). firstOf (tail 0 h (change y false))) (sym (lawful-start s x d .done e)))
 
   start-after : (h d : ℕ) → startAtRefusal c h d ≡ done → stepped c h (c .slots) (startStep c h d) ≡ changed c 0 h (change (startOf (c .settings) (hostAt c h) d) false)
   unfolding startAtRefusal
-  start-after h d e =
-      let p = first-passed (startRefusal (c .settings) (hostAt c h) d) _ (host-passed c h _ e .1) in
-      rw (start-done (c .settings) (hostAt c h) d (p .0), keeps (c .slots) 0)
+  start-after h d = host-after h _ _ _ (startStep c h d) (lawful-start (c .settings) (hostAt c h) d .done)
 
   restart-refusal : (h : ℕ) → restartAtRefusal c h ≡ changeRefusal c 0 h (change (restartOf (c .settings) (hostAt c h)) false)
-  unfolding restartAtRefusal restarted firstOf
+  unfolding restartAtRefusal restartedHost firstOf
   restart-refusal h =
       let s = c .settings in
       let x = hostAt c h in
-      let k = change (quiet (restarted s x)) false in
-      host-row h (change (restartOf s x) false) (restartRefusal s x) [] (answer-restart s x)
-      (λ e. sym (still-passed 0 h k refl ∙ quiet-full (slotsAfter c 0 k) (restarted s x)) ∙ ap (λ (y : Stepped). firstOf (tail 0 h (change y false))) (sym (restart-done s x e)))
+      let k = change (quietWith (restartedHost s x)) false in
+      host-row h (change (restartOf s x) false) (restartRefusal s x) [] (lawful-restart s x .answer)
+      (λ e. sym (still-passed 0 h k refl ∙ quiet-full (slotsAfter c 0 k) (restartedHost s x)) ∙ ap (λ (y : Stepped). firstOf (tail 0 h (change y false))) (sym (lawful-restart s x .done e)))
 
-  restart-after : (h : ℕ) → restartAtRefusal c h ≡ done → withHost c h (restarted (c .settings) (hostAt c h)) ≡ changed c 0 h (change (restartOf (c .settings) (hostAt c h)) false)
+  restart-after : (h : ℕ) → restartAtRefusal c h ≡ done → withHost c h (restartedHost (c .settings) (hostAt c h)) ≡ changed c 0 h (change (restartOf (c .settings) (hostAt c h)) false)
   unfolding restartAtRefusal stepped sentTo
-  restart-after h e =
-      let p = first-passed (restartRefusal (c .settings) (hostAt c h)) _ (host-passed c h _ e .1) in
-      rw (restart-done (c .settings) (hostAt c h) (p .0), keeps (c .slots) 0)
+  restart-after h = host-after h _ _ _ (quietWith (restartedHost (c .settings) (hostAt c h))) (lawful-restart (c .settings) (hostAt c h) .done)
 
   -- ---- deliver, lose, repeat: by what the slot holds
 
@@ -203,17 +202,17 @@ module _ (c : Cell) (z : Sized c) (o : cellOk c ≡ true) where
     delivers t = deliverChange (c .settings) (hostAt c (targetIn t)) t
 
     in-reach : (m : Message) → contentAt c i ≡ Content.One m → targetOf m < c .settings .n
-    in-reach m e = target-in (c .settings .n) m (message-of c i m o e)
+    in-reach m e = target-in (sizesOf (c .settings)) m (message-of c i m o e)
 
     -- a host refuses no message under way
-    passed : (m : Message) → contentAt c i ≡ Content.One m → messageRefusal (c .settings) (hostAt c (targetOf m)) m ≡ done
+    passed : (m : Message) → contentAt c i ≡ Content.One m → receiveRefusal (c .settings) (hostAt c (targetOf m)) m ≡ done
     passed m e =
         let j = cell-in c z o in
         let b = in-reach m e in
         message-passed (c .settings) (hostAt c (targetOf m)) m (j .host (targetOf m) b) (message-of c i m o e) (sym (j .number (targetOf m) b))
 
-    acts : (m : Message) → contentAt c i ≡ Content.One m → messageStep (c .settings) (hostAt c (targetOf m)) m ≡ deliverStep c m
-    acts m e = message-done (c .settings) (hostAt c (targetOf m)) m (passed m e)
+    steps : (m : Message) → contentAt c i ≡ Content.One m → receiveOf (c .settings) (hostAt c (targetOf m)) m ≡ deliverStep c m
+    steps m e = lawful-message (c .settings) (hostAt c (targetOf m)) m .done (passed m e)
 
     deliver-refusal : (t : Content) → contentAt c i ≡ t → firstOf (unless (cellOk c) refusedCell ∷ slotRefusal i t ∷ deliverFull c i t ∷ []) ≡ changeRefusal c i (targetIn t) (delivers t)
     unfolding deliverFull deliverChange slotAfter isEmpty firstOf
@@ -224,20 +223,20 @@ module _ (c : Cell) (z : Sized c) (o : cellOk c ≡ true) where
         let k = change (deliverStep c m) true in
         slot-row i h (Content.One m) (delivers (Content.One m)) (deliverFull c i (Content.One m) ∷ []) (in-reach m e)
         (first-only (stepFull (freed (c .slots) i) (deliverStep c m))
-        ∙ sym (still-passed i h k (stays-acted s (hostAt c h) m .clock))
-        ∙ ap (λ (y : Stepped). firstOf (tail i h (change y true))) (sym (acts m e))
-        ∙ sym (first-next (messageStep s (hostAt c h) m .answer) (tail i h (delivers (Content.One m))) (answer-message s (hostAt c h) m ∙ passed m e)))
+        ∙ sym (still-passed i h k (stays-delivery s (hostAt c h) m .clock))
+        ∙ ap (λ (y : Stepped). firstOf (tail i h (change y true))) (sym (steps m e))
+        ∙ sym (first-next (receiveOf s (hostAt c h) m .answer) (tail i h (delivers (Content.One m))) (lawful-message s (hostAt c h) m .answer ∙ passed m e)))
 
     deliver-after : (t : Content) → contentAt c i ≡ t → delivered c i t ≡ changed c i (targetIn t) (delivers t)
     unfolding delivered deliverChange slotAfter
     deliver-after Content.Empty e = sym (still-changed i refusedSlot)
-    deliver-after (Content.One m) e = ap (λ (y : Stepped). stepped c (targetOf m) (freed (c .slots) i) y) (sym (acts m e))
+    deliver-after (Content.One m) e = ap (λ (y : Stepped). stepped c (targetOf m) (freed (c .slots) i) y) (sym (steps m e))
 
     lose-refusal : (t : Content) → firstOf (unless (cellOk c) refusedCell ∷ slotRefusal i t ∷ []) ≡ changeRefusal c i 0 (loseChange (hostAt c 0) t)
     unfolding loseChange isEmpty firstOf
     lose-refusal Content.Empty = slot-row i 0 Content.Empty (loseChange (hostAt c 0) Content.Empty) [] some refl
     lose-refusal (Content.One m) =
-        let k = change (quiet (hostAt c 0)) true in
+        let k = change (quietWith (hostAt c 0)) true in
         slot-row i 0 (Content.One m) (loseChange (hostAt c 0) (Content.One m)) [] some (sym (still-passed i 0 k refl ∙ quiet-full (slotsAfter c i k) (hostAt c 0)))
 
     lose-after : (t : Content) → withSlots c (freed (c .slots) i) ≡ changed c i 0 (loseChange (hostAt c 0) t)
@@ -300,11 +299,11 @@ module _ (c : Cell) (z : Sized c) (o : cellOk c ≡ true) where
     unfolding refusalOf advanceAllRefusal
     all-refusal = cell-passed _ ∙ first-only (hostsRefusal c d)
 
-    pub all-refused : (a : ℕ) → (a ≡ done → ⊥) → hostsRefusal c d ≡ a → answered a c ≡ eventOf c e
+    pub all-refused : (a : ℕ) → (a ≡ done → ⊥) → hostsRefusal c d ≡ a → answeredWith a c ≡ eventOf c e
     unfolding eventOf
     all-refused a n q = sym (ap (eventOf c) all-event ∙ ap (λ (k : ℕ). answerWith k c (afterOf c (AdvanceAll d))) (all-refusal ∙ q) ∙ rw (ne-eqb a done n))
 
-    pub all-done : hostsRefusal c d ≡ done → answered done (advancedAll c d) ≡ eventOf c e
+    pub all-done : hostsRefusal c d ≡ done → answeredWith done (advancedAll c d) ≡ eventOf c e
     unfolding eventOf afterOf
     all-done q = sym (ap (eventOf c) all-event ∙ ap (λ (k : ℕ). answerWith k c (advancedAll c d)) (all-refusal ∙ q))
 
@@ -323,20 +322,20 @@ module _ {c : Cell} {e : Event} {i h : ℕ} {k : Change} (f : Found c e i h k) w
   is-found = rw (f .change-is, f .host-is, f .slot-is) (refusal-is c (f .sized) (f .ok) e (f .one))
 
   -- refused: the same cell with the number
-  event-refused : (a : ℕ) → (a ≡ done → ⊥) → changeRefusal c i h k ≡ a → answered a c ≡ eventOf c e
+  event-refused : (a : ℕ) → (a ≡ done → ⊥) → changeRefusal c i h k ≡ a → answeredWith a c ≡ eventOf c e
   unfolding eventOf
   event-refused a n q = sym (ap (λ (x : ℕ). answerWith x c (afterOf c e)) (is-found ∙ q) ∙ rw (ne-eqb a done n))
 
-  event-done : changeRefusal c i h k ≡ done → answered done (changed c i h k) ≡ eventOf c e
+  event-done : changeRefusal c i h k ≡ done → answeredWith done (changed c i h k) ≡ eventOf c e
   unfolding eventOf
   event-done q =
-      sym (ap (λ (x : ℕ). answerWith x c (afterOf c e)) (is-found ∙ q) ∙ rw (f .change-is, f .host-is, f .slot-is) (ap (answered done) (after-is c (f .sized) (f .ok) e (f .one) (is-found ∙ q))))
+      sym (ap (λ (x : ℕ). answerWith x c (afterOf c e)) (is-found ∙ q) ∙ rw (f .change-is, f .host-is, f .slot-is) (ap (answeredWith done) (after-is c (f .sized) (f .ok) e (f .one) (is-found ∙ q))))
 
-  pub slot-refused : slotCount ≤ i → answered refusedSlot c ≡ eventOf c e
+  pub slot-refused : slotCount ≤ i → answeredWith refusedSlot c ≡ eventOf c e
   unfolding changeRefusal firstOf
   slot-refused b = event-refused refusedSlot (λ q. absurd (omega arith)) (rw (le-ltb i slotCount b))
 
-  pub host-refused : i < slotCount → c .settings .n ≤ h → answered refusedHost c ≡ eventOf c e
+  pub host-refused : i < slotCount → c .settings .n ≤ h → answeredWith refusedHost c ≡ eventOf c e
   unfolding changeRefusal firstOf
   host-refused b d = event-refused refusedHost (λ q. absurd (omega arith)) (rw (lt-ltb i slotCount b, le-ltb h (c .settings .n) d))
 
@@ -345,11 +344,11 @@ module _ {c : Cell} {e : Event} {i h : ℕ} {k : Change} (f : Found c e i h k) w
     unfolding changeRefusal firstOf
     numbers-passed = rw (lt-ltb i slotCount b, lt-ltb h (c .settings .n) d)
 
-    pub change-refused : (k .answer ≡ done → ⊥) → answered (k .answer) c ≡ eventOf c e
+    pub change-refused : (k .answer ≡ done → ⊥) → answeredWith (k .answer) c ≡ eventOf c e
     change-refused n = event-refused (k .answer) n (numbers-passed ∙ first-found (k .answer) _ n)
 
     module _ (q : k .answer ≡ done) where
-      pub spread-refused : clocksNear (withHost c h (k .host)) ≡ false → answered refusedSpread c ≡ eventOf c e
+      pub spread-refused : clocksNear (withHost c h (k .host)) ≡ false → answeredWith refusedSpread c ≡ eventOf c e
       unfolding firstOf
       spread-refused l = event-refused refusedSpread (λ q. absurd (omega arith)) (numbers-passed ∙ first-next (k .answer) (tail c (f .sized) (f .ok) i h k) q ∙ rw l)
 
@@ -364,18 +363,18 @@ module _ {c : Cell} {e : Event} {i h : ℕ} {k : Change} (f : Found c e i h k) w
         abbrev count : ℕ
         count = messagesIn (k .sent) (k .receivers)
 
-        pub full-refused : empties (slotsAfter c i k) < count → answered refusedFull c ≡ eventOf c e
+        pub full-refused : empties (slotsAfter c i k) < count → answeredWith refusedFull c ≡ eventOf c e
         full-refused l = event-refused refusedFull (λ q. absurd (omega arith)) (full-is ∙ rw (lt-leb count (empties (slotsAfter c i k)) l))
 
         module _ (l : count ≤ empties (slotsAfter c i k)) where
-          committed : answered done (changed c i h k) ≡ eventOf c e
+          committed : answeredWith done (changed c i h k) ≡ eventOf c e
           committed = event-done (full-is ∙ rw (le-leb count (empties (slotsAfter c i k)) l))
 
-          pub committed-quiet : k .sent ≡ Sent.Nothing → answered done (withSlots (withHost c h (k .host)) (slotsAfter c i k)) ≡ eventOf c e
+          pub committed-quiet : k .sent ≡ Sent.Nothing → answeredWith done (withSlots (withHost c h (k .host)) (slotsAfter c i k)) ≡ eventOf c e
           unfolding stepped sentTo
           committed-quiet q = rw q at committed
 
           pub committed-sent : (m : Message) → k .sent ≡ Sent.One m
-              → answered done (withSlots (withHost c h (k .host)) (placedTo (c .settings .n) (slotsAfter c i k) m (k .receivers))) ≡ eventOf c e
+              → answeredWith done (withSlots (withHost c h (k .host)) (placedTo (c .settings .n) (slotsAfter c i k) m (k .receivers))) ≡ eventOf c e
           unfolding stepped sentTo
           committed-sent m q = rw q at committed

@@ -6,11 +6,12 @@ use mathlib.Core.List.{List, [], _∷_}
 use lib.Dec.{ltb}
 use lib.ListN.{set, getD}
 use Rattle.base.specs.Refusals.{unless, firstOf, refusedSlot, refusedSpread}
-use Rattle.quorum.specs.Sets.{single}
+use Rattle.quorum.specs.Sets.{singleOf}
+use Rattle.message.specs.Message.{targetOf}
 use Rattle.state.specs.declared.Settings.{Settings}
 use Rattle.host.specs.declared.Host.{Host}
 use Rattle.host.specs.declared.Stepped.{Stepped}
-use Rattle.host.specs.Steps.{refused, quiet, sending, advanceOf, restartOf, startOf, messageStep}
+use Rattle.host.specs.Steps.{refusedWith, quietWith, sendingWith, advanceOf, restartOf, startOf, receiveOf}
 use Rattle.slots.specs.declared.Slot.{Slot}
 use Rattle.slots.specs.declared.Content.{Content}
 use Rattle.slots.specs.Slots.{slotCount, emptySlot}
@@ -18,8 +19,8 @@ use Rattle.slots.specs.Parts.{slotAfter}
 use Rattle.cell.specs.declared.Cell.{Cell}
 use Rattle.cell.specs.declared.Event.{Event}
 use Rattle.cell.specs.declared.Event.the-variants.{AdvanceAll, AdvanceOne, Start, Deliver, Lose, Repeat, Restart}
-use Rattle.cell.specs.Limits.{withHost, clocksNear}
-use Rattle.cell.specs.Events.{hostRefusal, stepFull, stepped, targetOf}
+use Rattle.cell.specs.CellLimits.{withHost, clocksNear}
+use Rattle.cell.specs.Events.{hostRefusal, stepFull, stepped}
 use Rattle.change.specs.declared.Change.{Change}
 
 -- ---- what an event is about
@@ -76,20 +77,20 @@ abbrev pub stepOf : Change → Stepped
 stepOf k = record { answer = k .answer; host = k .host; sent = k .sent; receivers = k .receivers }
 
 unfoldable pub deliverChange : Settings → Host → Content → Change
-deliverChange s h Content.Empty = change (refused refusedSlot h) false
-deliverChange s h (Content.One m) = change (messageStep s h m) true
+deliverChange s h Content.Empty = change (refusedWith refusedSlot h) false
+deliverChange s h (Content.One m) = change (receiveOf s h m) true
 
 -- an empty slot may be freed: it stays as it is
 unfoldable pub loseChange : Host → Content → Change
-loseChange h Content.Empty = change (refused refusedSlot h) true
-loseChange h (Content.One m) = change (quiet h) true
+loseChange h Content.Empty = change (refusedWith refusedSlot h) true
+loseChange h (Content.One m) = change (quietWith h) true
 
 unfoldable pub repeatChange : Host → Content → Change
-repeatChange h Content.Empty = change (refused refusedSlot h) false
-repeatChange h (Content.One m) = change (sending h m (single (targetOf m))) false
+repeatChange h Content.Empty = change (refusedWith refusedSlot h) false
+repeatChange h (Content.One m) = change (sendingWith h m (singleOf (targetOf m))) false
 
 unfoldable pub changeOf : Settings → Event → Host → Content → Change
-changeOf s (AdvanceAll d) h t = change (quiet h) false
+changeOf s (AdvanceAll d) h t = change (quietWith h) false
 changeOf s (AdvanceOne k d) h t = change (advanceOf s h d) false
 changeOf s (Start k d) h t = change (startOf s h d) false
 changeOf s (Deliver i) h t = deliverChange s h t

@@ -72,7 +72,7 @@ fn target_in(content: Content) -> u8
 {
     match content {
         Content::Empty => 0,
-        Content::One(m) => message::numbers_of(m).target,
+        Content::One(m) => message::target_of(m),
     }
 }
 
@@ -134,7 +134,7 @@ fn repeat_change(h: Host, content: Content) -> Change
     match content {
         Content::Empty => change_by(host::refused_with(REFUSED_SLOT, h), false),
         Content::One(m) => change_by(
-            host::sending_with(h, m, quorum::single_of(message::numbers_of(m).target)),
+            host::sending_with(h, m, quorum::single_of(message::target_of(m))),
             false,
         ),
     }
@@ -162,6 +162,6 @@ pub fn messages_in(sent: Sent, receivers: u16) -> usize
 {
     match sent {
         Sent::Nothing => 0,
-        Sent::One(_) => quorum::count(receivers) as usize,
+        Sent::One(_) => quorum::size_of(receivers) as usize,
     }
 }

@@ -2,7 +2,7 @@
 // tests the cell's limits first; `apply_within` supposes them, so that a loop over events tests nothing again.
 ghost use mathlib.Core.Path.{_≡_};
 ghost use mathlib.Core.Bool.{true};
-ghost use Rattle.cell.specs.Limits.{cellOk};
+ghost use Rattle.cell.specs.CellLimits.{cellOk};
 ghost use Rattle.cell.specs.Events.{cellOf, eventOf};
 use base::DONE;
 use base::REFUSED_CELL;

@@ -1,18 +1,21 @@
 -- A frame is read only as the message it was made from. Assumes nothing.
 use mathlib.Core.Path.{_≡_, refl, sym, ap, _∙_}
-use mathlib.Core.Bool.{Bool, true, false, cond, not}
+use mathlib.Core.Bool.{Bool, true, false, cond}
 use mathlib.Core.List.{List, [], _++_}
 use Prim.Native.Nat.{ℕ, _<_}
 use native.Mathlib.Omega.{arith}
 use lib.ListN.{length, getD, take}
 use lib.Dec.{leb, eqb}
-use borrow.Author.Tests.{leb-true, eqb-true, eqb-false}
-use Rattle.base.specs.Refusals.{answer, allHold}
-use Rattle.quorum.specs.Sets.{cellFits}
+use borrow.Author.Tests.{leb-true, eqb-true}
+use Rattle.base.specs.Refusals.{refusedCell, refusedCut, refusedKind, refusedLength}
+use Rattle.base.specs.Lists.{allOf}
+use Rattle.base.proofs.Tests.{unless-passed}
+use Rattle.message.specs.declared.Sizes.{Sizes}
 use Rattle.message.specs.declared.Message.{Message}
-use Rattle.message.specs.Message.{sizeOf, numbersOf, messageOf}
-use Rattle.message.proofs.Laws.{size-least, message-numbers}
-use Rattle.layout.specs.Layout.{Fit, numbersIn}
+use Rattle.message.specs.Message.{knownKind, numbersOf, messageOf}
+use Rattle.message.proofs.Laws.{message-numbers}
+use Rattle.message.specs.Faults.{sizesFit}
+use Rattle.layout.specs.Layout.{Fit, kindLength, numbersIn}
 use Rattle.layout.proofs.Laws.{message-back, bytes-back}
 use Rattle.frame.specs.declared.Reading.the-variants.{Whole, Refused}
 use Rattle.frame.specs.Reading.{toldLength, toldKind, readAnswer, readOf}
@@ -20,48 +23,44 @@ use Rattle.frame.specs.Writing.{frameOf}
 use Rattle.frame.proofs.Round.{kind-back, frame-back}
 
 -- the tests that a read message passed
-pub record Accepted (n : ℕ) (s : List ℕ) (m : Message) (z : ℕ) : Type 0 where
-  pub answer : readAnswer n s ≡ 0
+pub record Accepted (z : Sizes) (s : List ℕ) (m : Message) (l : ℕ) : Type 0 where
+  pub answer : readAnswer z s ≡ 0
   pub message : messageOf (numbersIn s (toldKind s)) ≡ m
-  pub length : sizeOf (toldKind s) ≡ z
+  pub length : kindLength (toldKind s) ≡ l
 
-read-accepted : (n : ℕ) (s : List ℕ) (m : Message) (z : ℕ) → readOf n s ≡ Whole m z → Accepted n s m z
+read-accepted : (z : Sizes) (s : List ℕ) (m : Message) (l : ℕ) → readOf z s ≡ Whole m l → Accepted z s m l
 unfolding readOf
-read-accepted n s m z = go (readAnswer n s) (eqb (readAnswer n s) 0) refl refl
+read-accepted z s m l = go (readAnswer z s) (eqb (readAnswer z s) 0) refl refl
   where
-    go : (a : ℕ) (e : Bool) → readAnswer n s ≡ a → eqb a 0 ≡ e → cond e (Whole (messageOf (numbersIn s (toldKind s))) (sizeOf (toldKind s))) (Refused a) ≡ Whole m z → Accepted n s m z
+    go : (a : ℕ) (e : Bool) → readAnswer z s ≡ a → eqb a 0 ≡ e → cond e (Whole (messageOf (numbersIn s (toldKind s))) (kindLength (toldKind s))) (Refused a) ≡ Whole m l → Accepted z s m l
     go a true p q r = record { answer = p ∙ eqb-true a 0 q; message = cc; length = cc }
     go a false p q r = let absent : _≡_ {A = ℕ} 0 1 = cc in absurd (omega arith)
 
 -- an answer of 0: the frame is whole
 record Tested (s : List ℕ) : Type 0 where
-  kind : eqb (sizeOf (toldKind s)) 0 ≡ false
-  told : eqb (toldLength s) (sizeOf (toldKind s)) ≡ true
-  room : leb (sizeOf (toldKind s)) (length s) ≡ true
+  kind : knownKind (toldKind s) ≡ true
+  told : eqb (toldLength s) (kindLength (toldKind s)) ≡ true
+  room : leb (kindLength (toldKind s)) (length s) ≡ true
 
-tested : (n : ℕ) (s : List ℕ) → readAnswer n s ≡ 0 → Tested s
-unfolding readAnswer answer allHold
-tested n s = go (cellFits n) (leb 4 (length s)) (eqb (sizeOf (toldKind s)) 0) (eqb (toldLength s) (sizeOf (toldKind s))) (leb (sizeOf (toldKind s)) (length s)) _ refl refl refl
-  where
-    go : (c l z e r : Bool) (a : ℕ) → eqb (sizeOf (toldKind s)) 0 ≡ z → eqb (toldLength s) (sizeOf (toldKind s)) ≡ e → leb (sizeOf (toldKind s)) (length s) ≡ r
-        → cond c (cond l (cond (not z) (cond e (cond r a 2) 4) 3) 2) 1 ≡ 0 → Tested s
-    go true true false true true a p q r h = record { kind = p; told = q; room = r }
-    go true true false true false a p q r h = absurd (omega arith)
-    go true true false false b a p q r h = absurd (omega arith)
-    go true true true e b a p q r h = absurd (omega arith)
-    go true false z e b a p q r h = absurd (omega arith)
-    go false l z e b a p q r h = absurd (omega arith)
+tested : (z : Sizes) (s : List ℕ) → readAnswer z s ≡ 0 → Tested s
+unfolding readAnswer allOf
+tested z s e =
+    let p1 = unless-passed (sizesFit z) refusedCell _ refl e in
+    let p2 = unless-passed (leb 4 (length s)) refusedCut _ refl (p1 .1) in
+    let p3 = unless-passed (knownKind (toldKind s)) refusedKind _ refl (p2 .1) in
+    let p4 = unless-passed (eqb (toldLength s) (kindLength (toldKind s))) refusedLength _ refl (p3 .1) in
+    let p5 = unless-passed (leb (kindLength (toldKind s)) (length s)) refusedCut _ refl (p4 .1) in
+    record { kind = p3 .0; told = p4 .0; room = p5 .0 }
 
 -- bytes that are read as a message begin with the frame of that message, byte for byte
-pub read-only : (s : List ℕ) → ((i : ℕ) → getD s i 0 < 256) → (n : ℕ) (m : Message) (z : ℕ) → readOf n s ≡ Whole m z → take z s ≡ frameOf m
+pub read-only : (s : List ℕ) → ((i : ℕ) → getD s i 0 < 256) → (z : Sizes) (m : Message) (l : ℕ) → readOf z s ≡ Whole m l → take l s ≡ frameOf m
 unfolding frameOf
-read-only s bytes n m z q =
-    let p = read-accepted n s m z q in
-    let t = tested n s (p .answer) in
+read-only s bytes z m l q =
+    let p = read-accepted z s m l q in
+    let t = tested z s (p .answer) in
     let k = toldKind s in
-    let known = size-least k (eqb-false (sizeOf k) 0 (t .kind)) in
-    let back = bytes-back s k bytes known (leb-true (sizeOf k) (length s) (t .room)) refl (eqb-true (toldLength s) (sizeOf k) (t .told)) in
-    rw (← p .message, ← p .length, message-back s k known) (sym back)
+    let back = bytes-back s k bytes (t .kind) (leb-true (kindLength k) (length s) (t .room)) refl (eqb-true (toldLength s) (kindLength k) (t .told)) in
+    rw (← p .message, ← p .length, message-back s k (t .kind)) (sym back)
 
 -- two messages whose numbers fit their fields never share a frame
 pub frames-apart : (m m′ : Message) → Fit (numbersOf m) → Fit (numbersOf m′) → frameOf m ≡ frameOf m′ → m ≡ m′

@@ -1,25 +1,27 @@
 -- Reading what writing wrote gives the message and the frame's length, whatever follows; and bytes after a frame are not looked at.
 -- Assumes nothing.
 use mathlib.Core.Path.{_≡_, refl, sym, ap, _∙_}
-use mathlib.Core.Bool.{Bool, true, false, cond}
+use mathlib.Core.Bool.{Bool, true, false}
 use mathlib.Core.List.{List, _++_}
 use Prim.Native.Nat.{ℕ, _+_, _≤_}
 use native.Mathlib.Omega.{arith}
 use lib.ListN.{length, length-append, drop}
 use lib.Dec.{leb, eqb}
-use borrow.Author.Tests.{ltb-true, leb-true, eqb-true, eqb-false, le-leb, eq-eqb, ne-eqb}
-use Rattle.base.specs.Refusals.{answer, allHold}
-use Rattle.wire.specs.Wire.{le, numberAt, packed}
+use borrow.Author.Tests.{ltb-true, leb-true, eqb-true, le-leb, eq-eqb}
+use Rattle.base.specs.Refusals.{firstOf}
+use Rattle.base.specs.Lists.{allOf}
+use Rattle.base.proofs.Tests.{by-test}
+use Rattle.wire.specs.Wire.{le, numberAt, total, packed}
 use Rattle.wire.proofs.Laws.{number-within}
-use Rattle.quorum.specs.Sets.{cellFits}
+use Rattle.message.specs.declared.Sizes.{Sizes}
 use Rattle.message.specs.declared.Numbers.{Numbers}
 use Rattle.message.specs.declared.Message.{Message}
 use Rattle.message.specs.declared.Message.the-variants.{PrepareRequest, PrepareResponseEmpty, PrepareResponseLease, ProposeRequest, ProposeResponse, Learn}
-use Rattle.message.specs.Message.{lastTick, lastEnd, kindOf, sizeOf, numbersOf, messageOf}
-use Rattle.message.specs.Faults.{faultOf}
-use Rattle.message.proofs.Laws.{fault-passed, kind-known, size-least, message-numbers}
-use Rattle.layout.specs.Layout.{Fit, bytesOf, numbersIn}
-use Rattle.layout.proofs.Laws.{bytes-length, numbers-back, numbers-whole}
+use Rattle.message.specs.Message.{lastTick, lastEnd, knownKind, numbersOf}
+use Rattle.message.specs.Faults.{sizesFit, faultOf}
+use Rattle.message.proofs.Laws.{fault-passed, kind-known, message-numbers}
+use Rattle.layout.specs.Layout.{Fit, moreOf, kindLength, headLength, bytesOf, numbersIn}
+use Rattle.layout.proofs.Laws.{length-least, bytes-length, numbers-back, numbers-whole}
 use Rattle.frame.specs.declared.Reading.the-variants.{Whole, Refused}
 use Rattle.frame.specs.Reading.{toldLength, toldKind, readAnswer, readOf, numberOf}
 use Rattle.frame.specs.Writing.{frameOf, writeAnswer, writtenOf, afterWrite}
@@ -27,26 +29,24 @@ use Rattle.frame.proofs.Answers.{read-whole, answer-free, cell-most, wr
 
 -- ---- the number of an answer
 
-number-with : (a : ℕ) (e : Bool) (m : Message) (z : ℕ) → eqb a 0 ≡ e → numberOf (cond e (Whole m z) (Refused a)) ≡ a
-number-with a true m z p = sym (eqb-true a 0 p)
-number-with a false m z p = refl
-
 -- reading's number is that of the first refusal that applies
-pub read-number : (n : ℕ) (s : List ℕ) → numberOf (readOf n s) ≡ readAnswer n s
+pub read-number : (z : Sizes) (s : List ℕ) → numberOf (readOf z s) ≡ readAnswer z s
 unfolding readOf
-read-number n s = number-with (readAnswer n s) (eqb (readAnswer n s) 0) (messageOf (numbersIn s (toldKind s))) (sizeOf (toldKind s)) refl
+read-number z s =
+    let a = readAnswer z s in
+    by-test (λ r. numberOf r ≡ a) (eqb a 0) (Whole _ _) (Refused a) (λ e. sym (eqb-true a 0 e)) (λ _. refl)
 
 -- ---- written, then read
 
 -- what the checks let through fits its field
-pub checked-fit : (n : ℕ) (f : Numbers) → cellFits n ≡ true → faultOf n f ≡ 0 → Fit f
+pub checked-fit : (z : Sizes) (f : Numbers) → sizesFit z ≡ true → faultOf z f ≡ 0 → Fit f
 unfolding lastTick lastEnd
-checked-fit n f c e =
-    let n9 = cell-most n c in
-    let p = fault-passed n f e in
+checked-fit z f c e =
+    let n9 = cell-most z c in
+    let p = fault-passed z f e in
     record {
       sender = omega (arith, p .sender);
-      target = omega (arith, ltb-true (f .target) n (p .target));
+      target = omega (arith, ltb-true (f .target) (z .n) (p .target));
       ballotTick = omega (arith, p .ballotTick);
       ballotHost = omega (arith, p .ballotHost);
       acceptedTick = omega (arith, p .acceptedTick);
@@ -58,7 +58,7 @@ checked-fit n f c e =
 
 -- a frame's first two fields
 pub kind-back : (m : Message) (t : List ℕ) → toldKind (frameOf m ++ t) ≡ numbersOf m .kind
-unfolding frameOf bytesOf numbersOf kindOf packed le numberAt
+unfolding frameOf bytesOf numbersOf kindLength moreOf total packed le numberAt
 kind-back (PrepareRequest h) t = refl
 kind-back (PrepareResponseEmpty h) t = refl
 kind-back (PrepareResponseLease m) t = refl
@@ -66,8 +66,8 @@ kind-back (ProposeRequest m) t = refl
 kind-back (ProposeResponse h) t = refl
 kind-back (Learn m) t = refl
 
-length-back : (m : Message) (t : List ℕ) → toldLength (frameOf m ++ t) ≡ sizeOf (numbersOf m .kind)
-unfolding frameOf bytesOf numbersOf kindOf packed le numberAt
+length-back : (m : Message) (t : List ℕ) → toldLength (frameOf m ++ t) ≡ kindLength (numbersOf m .kind)
+unfolding frameOf bytesOf numbersOf kindLength moreOf total packed le numberAt
 length-back (PrepareRequest h) t = refl
 length-back (PrepareResponseEmpty h) t = refl
 length-back (PrepareResponseLease m) t = refl
@@ -75,41 +75,41 @@ length-back (ProposeRequest m) t = refl
 length-back (ProposeResponse h) t = refl
 length-back (Learn m) t = refl
 
-pub frame-length : (m : Message) → length (frameOf m) ≡ sizeOf (numbersOf m .kind)
+pub frame-length : (m : Message) → length (frameOf m) ≡ kindLength (numbersOf m .kind)
 unfolding frameOf
-frame-length m = bytes-length (numbersOf m) (kind-known m)
+frame-length m = bytes-length (numbersOf m)
 
 pub frame-back : (m : Message) (t : List ℕ) → Fit (numbersOf m) → numbersIn (frameOf m ++ t) (numbersOf m .kind) ≡ numbersOf m
 unfolding frameOf
 frame-back m t h = numbers-back m t h
 
 -- a message in which nothing is refused is read from its frame, whatever follows
-pub read-frame : (n : ℕ) (m : Message) (t : List ℕ) → cellFits n ≡ true → faultOf n (numbersOf m) ≡ 0 → readOf n (frameOf m ++ t) ≡ Whole m (length (frameOf m))
+pub read-frame : (z : Sizes) (m : Message) (t : List ℕ) → sizesFit z ≡ true → faultOf z (numbersOf m) ≡ 0 → readOf z (frameOf m ++ t) ≡ Whole m (length (frameOf m))
 unfolding readOf
-read-frame n m t c e =
+read-frame z m t c e =
     let s = frameOf m ++ t in
-    let z = sizeOf (numbersOf m .kind) in
-    let k : 15 ≤ z = kind-known m in
-    let l : length s ≡ z + length t = length-append (frameOf m) t ∙ ap (λ (x : ℕ). x + length t) (frame-length m) in
+    let len = kindLength (numbersOf m .kind) in
+    let k : headLength ≤ len = length-least (numbersOf m .kind) in
+    let l : length s ≡ len + length t = length-append (frameOf m) t ∙ ap (λ (x : ℕ). x + length t) (frame-length m) in
     let a = kind-back m t in
-    let back : numbersIn s (numbersOf m .kind) ≡ numbersOf m = frame-back m t (checked-fit n (numbersOf m) c e) in
-    let w = read-whole n s c (le-leb 4 (length s) (omega arith)) (rw a (ne-eqb z 0 (λ q. omega arith))) (rw (a, length-back m t) (eq-eqb z z refl)) (rw a (le-leb z (length s) (omega arith))) in
+    let back : numbersIn s (numbersOf m .kind) ≡ numbersOf m = frame-back m t (checked-fit z (numbersOf m) c e) in
+    let w = read-whole z s c (le-leb 4 (length s) (omega arith)) (rw a (kind-known m)) (rw (a, length-back m t) (eq-eqb len len refl)) (rw a (le-leb len (length s) (omega arith))) in
     rw (w, a, back, e, message-numbers m, frame-length m)
 
 -- where writing answers 0, reading what it left gives the message and the length that writing gave
-pub write-read : (n : ℕ) (m : Message) (out : List ℕ) → writeAnswer n m (length out) ≡ 0 → readOf n (afterWrite n m out) ≡ Whole m (writtenOf n m (length out) .len)
+pub write-read : (z : Sizes) (m : Message) (out : List ℕ) → writeAnswer z m (length out) ≡ 0 → readOf z (afterWrite z m out) ≡ Whole m (writtenOf z m (length out) .len)
 unfolding afterWrite writtenOf
-write-read n m out q =
-    let p = answer-free n _ _ (length out) (write-found n m (length out) ∙ q) in
-    rw q (read-frame n m (drop (length (frameOf m)) out) (p .cell) (p .message))
+write-read z m out q =
+    let p = answer-free z _ _ (length out) (write-found z m (length out) ∙ q) in
+    rw q (read-frame z m (drop (length (frameOf m)) out) (p .cell) (p .message))
 
 -- ---- what follows is not looked at
 
-module _ (n : ℕ) (s t : List ℕ) where
-  whole-rest : leb 4 (length s) ≡ true → cellFits n ≡ true → (readAnswer n s ≡ 2 → ⊥) → readOf n (s ++ t) ≡ readOf n s
-  unfolding readOf readAnswer answer allHold
+module _ (z : Sizes) (s t : List ℕ) where
+  whole-rest : leb 4 (length s) ≡ true → sizesFit z ≡ true → (readAnswer z s ≡ 2 → ⊥) → readOf z (s ++ t) ≡ readOf z s
+  unfolding readOf readAnswer firstOf allOf
   whole-rest four c h =
-      kinds (eqb (sizeOf (toldKind s)) 0) refl
+      kinds (knownKind (toldKind s)) refl
     where
       long : length s ≤ length (s ++ t)
       long = omega (arith, length-append s t)
@@ -123,31 +123,31 @@ module _ (n : ℕ) (s t : List ℕ) where
       told-length : toldLength (s ++ t) ≡ toldLength s
       told-length = number-within s t 0 2 (omega (arith, leb-true 4 (length s) four))
 
-      rooms : eqb (sizeOf (toldKind s)) 0 ≡ false → eqb (toldLength s) (sizeOf (toldKind s)) ≡ true → (r : Bool) → leb (sizeOf (toldKind s)) (length s) ≡ r → readOf n (s ++ t) ≡ readOf n s
-      rooms z e true r =
-          let fits = leb-true (sizeOf (toldKind s)) (length s) r in
-          let r′ : leb (sizeOf (toldKind s)) (length (s ++ t)) ≡ true = le-leb (sizeOf (toldKind s)) (length (s ++ t)) (omega (arith, long, fits)) in
-          let same = numbers-whole s t (toldKind s) (size-least (toldKind s) (eqb-false (sizeOf (toldKind s)) 0 z)) fits in
-          rw (c, four, four′, kind, told-length, z, e, r, r′, same)
-      rooms z e false r = absurd (h (rw (c, four, z, e, r)))
+      rooms : knownKind (toldKind s) ≡ true → eqb (toldLength s) (kindLength (toldKind s)) ≡ true → (r : Bool) → leb (kindLength (toldKind s)) (length s) ≡ r → readOf z (s ++ t) ≡ readOf z s
+      rooms k e true r =
+          let fits = leb-true (kindLength (toldKind s)) (length s) r in
+          let r′ : leb (kindLength (toldKind s)) (length (s ++ t)) ≡ true = le-leb (kindLength (toldKind s)) (length (s ++ t)) (omega (arith, long, fits)) in
+          let same = numbers-whole s t (toldKind s) fits in
+          rw (c, four, four′, kind, told-length, k, e, r, r′, same)
+      rooms k e false r = absurd (h (rw (c, four, k, e, r)))
 
-      lengths : eqb (sizeOf (toldKind s)) 0 ≡ false → (e : Bool) → eqb (toldLength s) (sizeOf (toldKind s)) ≡ e → readOf n (s ++ t) ≡ readOf n s
-      lengths z true e = rooms z e (leb (sizeOf (toldKind s)) (length s)) refl
-      lengths z false e = rw (c, four, four′, kind, told-length, z, e)
+      lengths : knownKind (toldKind s) ≡ true → (e : Bool) → eqb (toldLength s) (kindLength (toldKind s)) ≡ e → readOf z (s ++ t) ≡ readOf z s
+      lengths k true e = rooms k e (leb (kindLength (toldKind s)) (length s)) refl
+      lengths k false e = rw (c, four, four′, kind, told-length, k, e)
 
-      kinds : (z : Bool) → eqb (sizeOf (toldKind s)) 0 ≡ z → readOf n (s ++ t) ≡ readOf n s
-      kinds true z = rw (c, four, four′, kind, z)
-      kinds false z = lengths z (eqb (toldLength s) (sizeOf (toldKind s))) refl
+      kinds : (k : Bool) → knownKind (toldKind s) ≡ k → readOf z (s ++ t) ≡ readOf z s
+      kinds false k = rw (c, four, four′, kind, k)
+      kinds true k = lengths k (eqb (toldLength s) (kindLength (toldKind s))) refl
 
   -- unless bytes are missing (2), those that follow change nothing
-  pub rest-unread : (readAnswer n s ≡ 2 → ⊥) → readOf n (s ++ t) ≡ readOf n s
-  unfolding readOf readAnswer answer allHold
-  rest-unread h = cells (cellFits n) refl
+  pub rest-unread : (readAnswer z s ≡ 2 → ⊥) → readOf z (s ++ t) ≡ readOf z s
+  unfolding readOf readAnswer firstOf allOf
+  rest-unread h = cells (sizesFit z) refl
     where
-      fours : cellFits n ≡ true → (l : Bool) → leb 4 (length s) ≡ l → readOf n (s ++ t) ≡ readOf n s
+      fours : sizesFit z ≡ true → (l : Bool) → leb 4 (length s) ≡ l → readOf z (s ++ t) ≡ readOf z s
       fours c true l = whole-rest l c h
       fours c false l = absurd (h (rw (c, l)))
 
-      cells : (c : Bool) → cellFits n ≡ c → readOf n (s ++ t) ≡ readOf n s
+      cells : (c : Bool) → sizesFit z ≡ c → readOf z (s ++ t) ≡ readOf z s
       cells true c = fours c (leb 4 (length s)) refl
       cells false c = rw c

@@ -5,10 +5,13 @@ ghost use lib.ListN.{length};
 ghost use lib.Seq.{sets};
 ghost use lib.Count.{ones};
 ghost use Rattle.quorum.specs.Sets.{members};
-ghost use Rattle.message.specs.Message.{sizeOf, messageOf};
+ghost use Rattle.message.specs.Message.{messageOf};
 ghost use Rattle.message.specs.Faults.{faultOf};
+ghost use Rattle.layout.specs.Layout.{mostLength};
+ghost use Rattle.layout.specs.Parts.{Room};
 ghost use Rattle.frame.specs.Reading.{readWith, readOf, numberOf, lengthOf};
-ghost use Rattle.frame.specs.Writing.{answerOf, writtenOf, afterWrite, partOf, framesIn, writtenTo, afterWriteTo};
+ghost use Rattle.frame.specs.Writing.{writtenOf, afterWrite, framesIn, writtenTo, afterWriteTo};
+ghost use Rattle.frame.specs.Parts.{answerOf, partOf};
 use base::DONE;
 use base::REFUSED_CELL;
 use base::REFUSED_CUT;
@@ -17,6 +20,7 @@ use base::REFUSED_LENGTH;
 use base::REFUSED_ROOM;
 use message::Message;
 use message::Numbers;
+use message::Sizes;
 
 // What reading finds: a message with its frame's length, or the number of the refusal.
 pub enum Reading {
@@ -45,10 +49,10 @@ impl Reading {
 }
 
 // The message that numbers are of, with its frame's length, unless something in it is refused.
-fn read_numbers(n: u8, f: Numbers, len: usize) -> Reading
-    ensures { λ r. ⌜ r ≡ readWith (faultOf n f) (messageOf f) len ⌝ }
+fn read_numbers(z: Sizes, f: Numbers, len: usize) -> Reading
+    ensures { λ r. ⌜ r ≡ readWith (faultOf z f) (messageOf f) len ⌝ }
 {
-    let bad = message::fault(n, f);
+    let bad = message::fault(z, f);
     if bad == DONE {
         Reading::Whole(message::message_of(f), len)
     } else {
@@ -57,28 +61,28 @@ fn read_numbers(n: u8, f: Numbers, len: usize) -> Reading
 }
 
 // The message whose frame s begins with, and the frame's length; bytes after it are not looked at.
-pub fn read(n: u8, s: &[u8]) -> Reading
-    ensures { λ r. ⌜ r ≡ readOf n (now (s .entry)) ⌝ }
+pub fn read(z: Sizes, s: &[u8]) -> Reading
+    ensures { λ r. ⌜ r ≡ readOf z (now (s .entry)) ⌝ }
 {
-    if !quorum::cell_fits(n) {
+    if !message::sizes_fit(z) {
         return Reading::Refused(REFUSED_CELL);
     }
-    if s.len() < 4 {
+    if s.len() < layout::FORE_LENGTH {
         return Reading::Refused(REFUSED_CUT);
     }
-    let kind = wire::get(s, 2, 2) as u16;
-    let len = message::kind_of(kind).len;
-    if len == 0 {
+    let kind = wire::get(s, layout::KIND_AT, 2) as u16;
+    if !message::known_kind(kind) {
         return Reading::Refused(REFUSED_KIND);
     }
-    let told = wire::get(s, 0, 2);
+    let len = layout::kind_length(kind);
+    let told = wire::get(s, layout::LENGTH_AT, 2);
     if told != len as u64 {
         return Reading::Refused(REFUSED_LENGTH);
     }
     if s.len() < len {
         return Reading::Refused(REFUSED_CUT);
     }
-    read_numbers(n, layout::numbers_at(s, kind), len)
+    read_numbers(z, layout::numbers_at(s, kind), len)
 }
 
 // The answer's number, and how many bytes were written.
@@ -88,10 +92,10 @@ pub struct Written {
 }
 
 // The answer of writing: 1, then what is refused in the message, then 8.
-fn answer_of(n: u8, bad: u8, total: usize, room: usize) -> u8
-    ensures { λ r. ⌜ r ≡ answerOf n bad total room ⌝ }
+fn answer_of(z: Sizes, bad: u8, total: usize, room: usize) -> u8
+    ensures { λ r. ⌜ r ≡ answerOf z bad total room ⌝ }
 {
-    if !quorum::cell_fits(n) {
+    if !message::sizes_fit(z) {
         return REFUSED_CELL;
     }
     if bad != DONE {
@@ -101,13 +105,13 @@ fn answer_of(n: u8, bad: u8, total: usize, room: usize) -> u8
 }
 
 // Writes the frame of a message at the start of out, or leaves out as it is.
-pub fn write(n: u8, m: Message, out: &mut [u8]) -> Written
-    ensures { λ r. ⌜ (r ≡ writtenOf n m (length (now (out .entry)))) × (now (out .exit) ≡ afterWrite n m (now (out .entry))) ⌝ }
+pub fn write(z: Sizes, m: Message, out: &mut [u8]) -> Written
+    ensures { λ r. ⌜ (r ≡ writtenOf z m (length (now (out .entry)))) × (now (out .exit) ≡ afterWrite z m (now (out .entry))) ⌝ }
 {
     let f = message::numbers_of(m);
-    let len = message::kind_of(f.kind).len;
-    let bad = message::fault(n, f);
-    let answer = answer_of(n, bad, len, out.len());
+    let len = layout::kind_length(f.kind);
+    let bad = message::fault(z, f);
+    let answer = answer_of(z, bad, len, out.len());
     if answer != DONE {
         return Written { answer, len: 0 };
     }
@@ -117,7 +121,7 @@ pub fn write(n: u8, m: Message, out: &mut [u8]) -> Written
 
 // Writes one frame at `at`, or none, and gives where the next one goes.
 fn put_if(out: &mut [u8], at: usize, f: Numbers, len: usize, on: bool) -> usize
-    requires { ⌜ (len ≡ sizeOf (f .kind)) × ((15 ≤ len) × (at + length (partOf on f) ≤ length (now out))) ⌝ }
+    requires { ⌜ Room f len (at + length (partOf on f)) (now out) ⌝ }
     ensures { λ r. ⌜ (r ≡ at + length (partOf on f)) × (now (out .exit) ≡ sets (now (out .entry)) at (partOf on f)) ⌝ }
 {
     if on {
@@ -130,7 +134,7 @@ fn put_if(out: &mut [u8], at: usize, f: Numbers, len: usize, on: bool) -> usize
 
 // Writes the frames to the hosts of a set end to end at the start of out. The set is halved until no host is left.
 fn put_set(out: &mut [u8], f: Numbers, len: usize, set: u16)
-    requires { ⌜ (len ≡ sizeOf (f .kind)) × ((15 ≤ len) × (length (framesIn f (members 16 set)) ≤ length (now out))) ⌝ }
+    requires { ⌜ Room f len (length (framesIn f (members 16 set))) (now out) ⌝ }
     ensures { λ _. ⌜ now (out .exit) ≡ sets (now (out .entry)) 0 (framesIn f (members 16 set)) ⌝ }
 {
     let mut rest = set;
@@ -145,22 +149,22 @@ fn put_set(out: &mut [u8], f: Numbers, len: usize, set: u16)
 
 // How many bytes the frames to a set take.
 fn total_of(set: u16, len: usize) -> usize
-    requires { ⌜ len ≤ 33 ⌝ }
+    requires { ⌜ len ≤ mostLength ⌝ }
     ensures { λ r. ⌜ r ≡ ones set * len ⌝ }
 {
-    quorum::count(set) as usize * len
+    quorum::size_of(set) as usize * len
 }
 
 // Writes the frames of a message to the hosts of a set end to end at the start of out, or leaves out as it is. The message's own
 // target is not looked at.
-pub fn write_to(n: u8, m: Message, set: u16, out: &mut [u8]) -> Written
-    ensures { λ r. ⌜ (r ≡ writtenTo n m set (length (now (out .entry)))) × (now (out .exit) ≡ afterWriteTo n m set (now (out .entry))) ⌝ }
+pub fn write_to(z: Sizes, m: Message, set: u16, out: &mut [u8]) -> Written
+    ensures { λ r. ⌜ (r ≡ writtenTo z m set (length (now (out .entry)))) × (now (out .exit) ≡ afterWriteTo z m set (now (out .entry))) ⌝ }
 {
     let f = message::numbers_of(m);
-    let len = message::kind_of(f.kind).len;
+    let len = layout::kind_length(f.kind);
     let total = total_of(set, len);
-    let bad = message::fault_to(n, f, set);
-    let answer = answer_of(n, bad, total, out.len());
+    let bad = message::fault_to(z, f, set);
+    let answer = answer_of(z, bad, total, out.len());
     if answer != DONE {
         return Written { answer, len: 0 };
     }

@@ -1,22 +1,27 @@
 -- The answers of writing numbers: 1 and 3, then writing's. Assumes nothing.
 use mathlib.Core.Path.{_≡_, refl}
-use mathlib.Core.Bool.{Bool, true, false, cond, not}
-use mathlib.Core.List.{List, _∷_}
+use mathlib.Core.Bool.{Bool, true, false, cond}
+use mathlib.Core.List.{List, [], _∷_}
 use Prim.Native.Nat.{ℕ}
 use lib.Dec.{eqb}
-use Rattle.base.specs.Refusals.{Refusal, allHold, answer}
-use Rattle.quorum.specs.Sets.{cellFits}
-use Rattle.message.specs.Message.{sizeOf}
-use Rattle.message.specs.Faults.{Field}
+use Rattle.base.specs.Refusals.{refusedCell, refusedKind, unless, firstOf, Refusal, answer}
+use Rattle.base.specs.Lists.{allOf}
+use Rattle.message.specs.declared.Sizes.{Sizes}
+use Rattle.message.specs.Message.{knownKind}
+use Rattle.message.specs.Faults.{sizesFit, Field}
 use Rattle.frame.specs.Writing.{writeRefusals}
-use Rattle.frame_c.specs.Interface.{kindRefusal, kindAnswer}
+use Rattle.frame_c.specs.Interface.{kindRefusal}
+use Rattle.frame_c.specs.Parts.{kindAnswer}
 
-pub kind-found : (n k : ℕ) (message : List (Refusal Field)) (bytes : List ℕ) (room : ℕ)
-    → answer (writeRefusals n (kindRefusal k ∷ message) bytes room) ≡ cond (eqb (kindAnswer n k) 0) (answer (writeRefusals n message bytes room)) (kindAnswer n k)
-unfolding answer allHold kindAnswer
-kind-found n k message bytes room = go (cellFits n) (eqb (sizeOf k) 0) _
-  where
-    go : (c z : Bool) (a : ℕ) → cond c (cond (not z) a 3) 1 ≡ cond (eqb (cond c (cond z 3 0) 1) 0) (cond c a 1) (cond c (cond z 3 0) 1)
-    go true true a = refl
-    go true false a = refl
-    go false z a = refl
+first-two : (c b : Bool) (ks : List ℕ) →
+    let a = firstOf (unless c refusedCell ∷ unless b refusedKind ∷ []) in
+    firstOf (unless c refusedCell ∷ unless b refusedKind ∷ ks) ≡ cond (eqb a 0) (firstOf (unless c refusedCell ∷ ks)) a
+unfolding firstOf
+first-two true true ks = refl
+first-two true false ks = refl
+first-two false b ks = refl
+
+pub kind-found : (z : Sizes) (k : ℕ) (message : List (Refusal Field)) (bytes : List ℕ) (room : ℕ)
+    → answer (writeRefusals z (kindRefusal k ∷ message) bytes room) ≡ cond (eqb (kindAnswer z k) 0) (answer (writeRefusals z message bytes room)) (kindAnswer z k)
+unfolding allOf kindAnswer
+kind-found z k message bytes room = first-two (sizesFit z) (knownKind k) _

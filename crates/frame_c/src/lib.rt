@@ -1,24 +1,26 @@
 // Frames for hosts written in C: numbers and byte slices. include/lease_frame.h declares these functions.
 ghost use mathlib.Core.Path.{_≡_};
 ghost use lib.ListN.{length};
+ghost use Rattle.message.specs.Faults.{sizes};
 ghost use Rattle.frame.specs.Reading.{readOf, numberOf, lengthOf};
-ghost use Rattle.frame_c.specs.Interface.{endOf, numbersAfter, handed, handedWritten, afterHanded, Wrote, handedWrittenTo, afterHandedTo, WroteTo, kindAnswer};
+ghost use Rattle.frame_c.specs.Interface.{endOf, numbersAfter, handedNumbers, handedWritten, afterHanded, Wrote, handedWrittenTo, afterHandedTo, WroteTo};
+ghost use Rattle.frame_c.specs.Parts.{kindAnswer};
 use base::DONE;
 use base::REFUSED_CELL;
 use base::REFUSED_KIND;
 use frame::Reading;
 use frame::Written;
 use message::Ballot;
-use message::Head;
 use message::HoldersEnd;
 use message::KeepersEnd;
 use message::LEARN;
 use message::Numbers;
+use message::Sizes;
 
 fn end_of(f: Numbers) -> u64
     ensures { λ r. ⌜ r ≡ endOf f ⌝ }
 {
-    if f.kind == 6 {
+    if f.kind == LEARN {
         f.holders.0
     } else {
         f.keepers.0
@@ -34,12 +36,12 @@ pub extern "C" fn lease_frame_read(
     numbers: &mut [u64; 9],
     len: &mut usize,
 ) -> u8
-    ensures { λ r. ⌜ (r ≡ numberOf (readOf n (now (bytes .entry))))
-        × ((now (numbers .exit) ≡ numbersAfter (readOf n (now (bytes .entry))) (now (numbers .entry)))
-        × (now (len .exit) ≡ lengthOf (readOf n (now (bytes .entry))))) ⌝ }
+    ensures { λ r. ⌜ (r ≡ numberOf (readOf (sizes n) (now (bytes .entry))))
+        × ((now (numbers .exit) ≡ numbersAfter (readOf (sizes n) (now (bytes .entry))) (now (numbers .entry)))
+        × (now (len .exit) ≡ lengthOf (readOf (sizes n) (now (bytes .entry))))) ⌝ }
 {
-    match frame::read(n, bytes) {
-        Reading::Whole(m, z) => {
+    match frame::read(Sizes { n }, bytes) {
+        Reading::Whole(m, l) => {
             let f = message::numbers_of(m);
             *numbers = [
                 f.kind as u64,
@@ -52,7 +54,7 @@ pub extern "C" fn lease_frame_read(
                 f.owner as u64,
                 end_of(f),
             ];
-            *len = z;
+            *len = l;
             DONE
         }
         Reading::Refused(k) => {
@@ -73,13 +75,9 @@ fn handed_numbers(
     owner: u8,
     end: u64,
 ) -> Numbers
-    ensures { λ r. ⌜ r ≡ handed kind sender target tick host «accepted_tick» «accepted_host» owner end ⌝ }
+    ensures { λ r. ⌜ r ≡ handedNumbers kind sender target tick host «accepted_tick» «accepted_host» owner end ⌝ }
 {
-    let head = Head {
-        sender,
-        target,
-        ballot: Ballot { tick, host },
-    };
+    let head = message::head_with(sender, target, Ballot { tick, host });
     let accepted = Ballot {
         tick: accepted_tick,
         host: accepted_host,
@@ -91,44 +89,44 @@ fn handed_numbers(
 }
 
 // 1, 3 for a kind that is none, or 0.
-fn kind_answer(n: u8, kind: u16) -> u8
-    ensures { λ r. ⌜ r ≡ kindAnswer n kind ⌝ }
+fn kind_answer(z: Sizes, kind: u16) -> u8
+    ensures { λ r. ⌜ r ≡ kindAnswer z kind ⌝ }
 {
-    if !quorum::cell_fits(n) {
+    if !message::sizes_fit(z) {
         return REFUSED_CELL;
     }
-    if message::kind_of(kind).len == 0 {
+    if !message::known_kind(kind) {
         return REFUSED_KIND;
     }
     DONE
 }
 
 // Writes the frame of numbers of a kind; those that the kind lacks are not looked at.
-fn write_handed(n: u8, f: Numbers, out: &mut [u8]) -> Written
-    ensures { λ r. ⌜ (r ≡ handedWritten n f (length (now (out .entry)))) × (now (out .exit) ≡ afterHanded n f (now (out .entry))) ⌝ }
+fn write_handed(z: Sizes, f: Numbers, out: &mut [u8]) -> Written
+    ensures { λ r. ⌜ (r ≡ handedWritten z f (length (now (out .entry)))) × (now (out .exit) ≡ afterHanded z f (now (out .entry))) ⌝ }
 {
-    let bad = kind_answer(n, f.kind);
+    let bad = kind_answer(z, f.kind);
     if bad != DONE {
         return Written {
             answer: bad,
             len: 0,
         };
     }
-    frame::write(n, message::message_of(f), out)
+    frame::write(z, message::message_of(f), out)
 }
 
 // Writes the frames of numbers of a kind to a set of receivers; those that the kind lacks, and the target, are not looked at.
-fn write_handed_to(n: u8, f: Numbers, set: u16, out: &mut [u8]) -> Written
-    ensures { λ r. ⌜ (r ≡ handedWrittenTo n f set (length (now (out .entry)))) × (now (out .exit) ≡ afterHandedTo n f set (now (out .entry))) ⌝ }
+fn write_handed_to(z: Sizes, f: Numbers, set: u16, out: &mut [u8]) -> Written
+    ensures { λ r. ⌜ (r ≡ handedWrittenTo z f set (length (now (out .entry)))) × (now (out .exit) ≡ afterHandedTo z f set (now (out .entry))) ⌝ }
 {
-    let bad = kind_answer(n, f.kind);
+    let bad = kind_answer(z, f.kind);
     if bad != DONE {
         return Written {
             answer: bad,
             len: 0,
         };
     }
-    frame::write_to(n, message::message_of(f), set, out)
+    frame::write_to(z, message::message_of(f), set, out)
 }
 
 // Writes the frame of a message at the start of out, and its length to len: 0 where it is refused.
@@ -147,7 +145,7 @@ pub extern "C" fn lease_frame_write(
     out: &mut [u8],
     len: &mut usize,
 ) -> u8
-    ensures { λ r. ⌜ Wrote n (handed kind sender target «ballot_tick» «ballot_host» «accepted_tick» «accepted_host» owner end)
+    ensures { λ r. ⌜ Wrote (sizes n) (handedNumbers kind sender target «ballot_tick» «ballot_host» «accepted_tick» «accepted_host» owner end)
         (now (out .entry)) r (now (len .exit)) (now (out .exit)) ⌝ }
 {
     let f = handed_numbers(
@@ -161,7 +159,7 @@ pub extern "C" fn lease_frame_write(
         owner,
         end,
     );
-    let w = write_handed(n, f, out);
+    let w = write_handed(Sizes { n }, f, out);
     *len = w.len;
     w.answer
 }
@@ -183,7 +181,7 @@ pub extern "C" fn lease_frame_write_to(
     out: &mut [u8],
     len: &mut usize,
 ) -> u8
-    ensures { λ r. ⌜ WroteTo n (handed kind sender 0 «ballot_tick» «ballot_host» «accepted_tick» «accepted_host» owner end) receivers
+    ensures { λ r. ⌜ WroteTo (sizes n) (handedNumbers kind sender 0 «ballot_tick» «ballot_host» «accepted_tick» «accepted_host» owner end) receivers
         (now (out .entry)) r (now (len .exit)) (now (out .exit)) ⌝ }
 {
     let f = handed_numbers(
@@ -197,7 +195,7 @@ pub extern "C" fn lease_frame_write_to(
         owner,
         end,
     );
-    let w = write_handed_to(n, f, receivers, out);
+    let w = write_handed_to(Sizes { n }, f, receivers, out);
     *len = w.len;
     w.answer
 }

@@ -1,6 +1,13 @@
 // Shows frames being read and written: document 01's P11 and P12, each kind once, each refusal once, and for each kind all 65,536
 // values of the length field, counted by answer. Its output is held to the file stdout.
 ghost use Prim.Native.Nat.{_≤_};
+use message::LEARN;
+use message::PREPARE_REQUEST;
+use message::PREPARE_RESPONSE_EMPTY;
+use message::PREPARE_RESPONSE_LEASE;
+use message::PROPOSE_REQUEST;
+use message::PROPOSE_RESPONSE;
+use message::Sizes;
 
 mod sample;
 mod show;
@@ -40,30 +47,30 @@ const ZERO: [u8; 24] = [
 ];
 
 fn worked() {
-    show::reading(b"P11", frame::read(3, &P11));
-    show::reading(b"P12", frame::read(3, &P12));
-    show::reading(b"zero tick and end", frame::read(1, &ZERO));
+    show::reading(b"P11", frame::read(sample::sizes(), &P11));
+    show::reading(b"P12", frame::read(sample::sizes(), &P12));
+    show::reading(b"zero tick and end", frame::read(Sizes { n: 1 }, &ZERO));
 }
 
 // The frame of a kind's sample, and what is read from it.
 fn one_kind(kind: u16) {
     let mut out = [0u8; 33];
-    let w = frame::write(3, sample::message_of_kind(kind), &mut out);
+    let w = frame::write(sample::sizes(), sample::message_of_kind(kind), &mut out);
     show::frame(&out, w.len);
-    show::reading(b"  reads", frame::read(3, &out));
+    show::reading(b"  reads", frame::read(sample::sizes(), &out));
 }
 
 fn kinds() {
-    one_kind(1);
-    one_kind(2);
-    one_kind(3);
-    one_kind(4);
-    one_kind(5);
-    one_kind(6);
+    one_kind(PREPARE_REQUEST);
+    one_kind(PREPARE_RESPONSE_EMPTY);
+    one_kind(PREPARE_RESPONSE_LEASE);
+    one_kind(PROPOSE_REQUEST);
+    one_kind(PROPOSE_RESPONSE);
+    one_kind(LEARN);
 }
 
 fn read_sixteen(label: &[u8], bytes: &[u8; 16]) {
-    show::reading(label, frame::read(3, bytes));
+    show::reading(label, frame::read(sample::sizes(), bytes));
 }
 
 // What is read once one byte of P11 is another.
@@ -76,11 +83,17 @@ fn damaged(label: &[u8], at: usize, byte: u8) {
 }
 
 fn refused_readings() {
-    show::reading(b"read 1 cell", frame::read(10, &P11));
-    show::reading(b"read 2 cut, under 4 bytes", frame::read(3, &[15, 0, 1]));
+    show::reading(b"read 1 cell", frame::read(Sizes { n: 10 }, &P11));
+    show::reading(
+        b"read 2 cut, under 4 bytes",
+        frame::read(sample::sizes(), &[15, 0, 1]),
+    );
     damaged(b"read 3 kind", 2, 7);
     damaged(b"read 4 length", 0, 14);
-    show::reading(b"read 2 cut", frame::read(3, &[15, 0, 1, 0, 0, 2, 105]));
+    show::reading(
+        b"read 2 cut",
+        frame::read(sample::sizes(), &[15, 0, 1, 0, 0, 2, 105]),
+    );
     damaged(b"read 5 host", 5, 3);
     damaged(b"read 6 tick", 13, 1);
     damaged(b"read 7 party", 14, 1);
@@ -89,13 +102,13 @@ fn refused_readings() {
 // What writing P11's message, with another sender and tick, into 15 bytes answers.
 fn written(label: &[u8], n: u8, sender: u8, tick: u64) {
     let mut out = [0u8; 15];
-    let w = frame::write(n, sample::request(sender, tick), &mut out);
+    let w = frame::write(Sizes { n }, sample::request(sender, tick), &mut out);
     show::written(label, w.answer, w.len);
 }
 
 fn no_room() {
     let mut out = [0u8; 14];
-    let w = frame::write(3, sample::request(0, 105), &mut out);
+    let w = frame::write(sample::sizes(), sample::request(0, 105), &mut out);
     show::written(b"write 8 room", w.answer, w.len);
 }
 
@@ -111,16 +124,21 @@ fn refused_writings() {
 // What writing a kind's sample to a set of receivers answers.
 fn to_set(label: &[u8], kind: u16, set: u16) {
     let mut out = [0u8; 99];
-    let w = frame::write_to(3, sample::message_of_kind(kind), set, &mut out);
+    let w = frame::write_to(
+        sample::sizes(),
+        sample::message_of_kind(kind),
+        set,
+        &mut out,
+    );
     show::written(label, w.answer, w.len);
 }
 
 fn sets() {
-    to_set(b"set of all three", 6, 7);
-    to_set(b"set of none", 6, 0);
-    to_set(b"set 5 host", 6, 8);
-    to_set(b"set 7 party", 3, 2);
-    to_set(b"set of the ballot's host", 3, 1);
+    to_set(b"set of all three", LEARN, 7);
+    to_set(b"set of none", LEARN, 0);
+    to_set(b"set 5 host", LEARN, 8);
+    to_set(b"set 7 party", PREPARE_RESPONSE_LEASE, 2);
+    to_set(b"set of the ballot's host", PREPARE_RESPONSE_LEASE, 1);
 }
 
 // What a frame is answered with another length field.
@@ -128,7 +146,7 @@ fn answer_with(bytes: [u8; 33], length: u64) -> u8 {
     let mut frame = bytes;
     frame[0] = (length % 256) as u8;
     frame[1] = (length / 256 % 256) as u8;
-    frame::read(3, &frame).number()
+    frame::read(sample::sizes(), &frame).number()
 }
 
 fn one_if(on: bool) -> u64
@@ -156,7 +174,7 @@ fn lengths_answered(bytes: [u8; 33], answer: u8) {
 // The frame of a kind's sample, in 33 bytes.
 fn sample_frame(kind: u16) -> [u8; 33] {
     let mut out = [0u8; 33];
-    frame::write(3, sample::message_of_kind(kind), &mut out);
+    frame::write(sample::sizes(), sample::message_of_kind(kind), &mut out);
     out
 }
 
@@ -172,12 +190,12 @@ fn lengths_of_kind(kind: u16) {
 }
 
 fn all_lengths() {
-    lengths_of_kind(1);
-    lengths_of_kind(2);
-    lengths_of_kind(3);
-    lengths_of_kind(4);
-    lengths_of_kind(5);
-    lengths_of_kind(6);
+    lengths_of_kind(PREPARE_REQUEST);
+    lengths_of_kind(PREPARE_RESPONSE_EMPTY);
+    lengths_of_kind(PREPARE_RESPONSE_LEASE);
+    lengths_of_kind(PROPOSE_REQUEST);
+    lengths_of_kind(PROPOSE_RESPONSE);
+    lengths_of_kind(LEARN);
 }
 
 fn main() {

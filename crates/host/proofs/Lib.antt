@@ -1,5 +1,6 @@
-pub mod Limits
+pub mod HostLimits
 pub mod Writable
-pub mod Kept
+pub mod Refused
+pub mod Outcomes
+pub mod Within
 pub mod Majority
-pub mod Stays

@@ -1,57 +1,65 @@
--- Laws of the layout: the lengths in the table of kinds are those of the fields, and numbers as bytes and back. Assumes nothing.
+-- Laws of the layout: the lengths of frames, and numbers as bytes and back. Assumes nothing.
 use mathlib.Core.Path.{_≡_, refl, sym, ap, _∙_}
+use mathlib.Core.Bool.{Bool, true, false, cond}
 use mathlib.Core.List.{List, [], _∷_, _++_, map}
-use Prim.Native.Nat.{ℕ, suc, _+_, _≤_, _<_}
+use Prim.Native.Nat.{ℕ, _≤_, _<_}
 use native.Mathlib.Omega.{arith}
-use lib.ListN.{length, getD, take}
-use lib.Dec.{lit<}
+use lib.ListN.{length, getD, take, length-map}
+use lib.Dec.{lit<, lit≤, eqb}
 use Rattle.wire.specs.Wire.{numberAt, total, numbersAt, packed}
 use Rattle.wire.proofs.Laws.{Fits, packed-length, numbers-packed, packed-numbers, numbers-within}
 use Rattle.message.specs.declared.Numbers.{Numbers}
 use Rattle.message.specs.declared.Message.{Message}
 use Rattle.message.specs.declared.Message.the-variants.{PrepareRequest, PrepareResponseEmpty, PrepareResponseLease, ProposeRequest, ProposeResponse, Learn}
-use Rattle.message.specs.Message.{kindOf, sizeOf, numbersOf, messageOf}
-use Rattle.message.specs.Faults.{Field}
+use Rattle.message.specs.Message.{prepareResponseLease, proposeRequest, learn, knownKind, numbersOf, messageOf}
+use Rattle.message.specs.Faults.{Field, frameLength, kindNumber, sender, ballotTick, acceptedTick, acceptedHost, owner, keepersEnd, holdersEnd}
 use Rattle.message.proofs.Laws.{by-kind}
-use Rattle.layout.specs.Layout.{Fit, widthOf, common, moreOf, fieldsOf, widths, valueOf, bytesOf, valueIn, numbersFrom, numbersIn}
+use Rattle.layout.specs.Layout.{Fit, widthOf, common, moreOf, fieldsOf, widths, kindLength, offsetIn, lengthOffset, kindOffset, foreLength, ballotOffset, headLength, mostLength, valueOf, bytesOf, valueIn, numbersFrom, numbersIn}
 
 -- ---- lengths
 
--- the length that the table has for a kind is that of its fields
-pub widths-total : (k : ℕ) → 15 ≤ sizeOf k → total (widths (fieldsOf k)) ≡ sizeOf k
-unfolding kindOf moreOf total
-widths-total = by-kind (λ (k : ℕ). 15 ≤ sizeOf k → total (widths (fieldsOf k)) ≡ sizeOf k) (λ h. omega arith) (λ h. refl) (λ h. refl) (λ h. refl) (λ h. refl) (λ h. refl) (λ h. refl) (λ k h. omega arith)
+pub length-least : (k : ℕ) → headLength ≤ kindLength k
+unfolding kindLength total
+length-least k = omega arith
 
--- kinds but 3, 4 and 6 have no more than the fields of every frame
-pub no-more : (k : ℕ) → (k ≡ 3 → ⊥) → (k ≡ 4 → ⊥) → (k ≡ 6 → ⊥) → moreOf k ≡ []
-unfolding moreOf
-no-more = by-kind (λ (k : ℕ). (k ≡ 3 → ⊥) → (k ≡ 4 → ⊥) → (k ≡ 6 → ⊥) → moreOf k ≡ []) (λ a b c. refl) (λ a b c. refl) (λ a b c. refl) (λ a b c. absurd (a refl)) (λ a b c. absurd (b refl)) (λ a b c. refl) (λ a b c. absurd (c refl)) (λ k a b c. refl)
+pub length-most : (k : ℕ) → knownKind k ≡ true → kindLength k ≤ mostLength
+unfolding kindLength moreOf total
+length-most = by-kind (λ (k : ℕ). kindLength k ≤ mostLength) (lit≤ tt) (lit≤ tt) (lit≤ tt) (lit≤ tt) (lit≤ tt) (lit≤ tt)
 
-length-map : {A B : Type 0} (g : A → B) (l : List A) → length (map g l) ≡ length l
-length-map g [] = refl
-length-map g (x ∷ l) = ap suc (length-map g l)
+-- a frame that is no longer than its head has no more fields
+pub no-more : (k : ℕ) → kindLength k ≡ headLength → moreOf k ≡ []
+unfolding kindLength moreOf total
+no-more k = go (eqb k prepareResponseLease) (eqb k proposeRequest) (eqb k learn)
+  where
+    go : (a b c : Bool) →
+        let fs = cond a (acceptedTick ∷ acceptedHost ∷ owner ∷ keepersEnd ∷ []) (cond b (owner ∷ keepersEnd ∷ []) (cond c (owner ∷ holdersEnd ∷ []) [])) in
+        total (widths (common ++ fs)) ≡ headLength → fs ≡ []
+    go true b c e = absurd (omega arith)
+    go false true c e = absurd (omega arith)
+    go false false true e = absurd (omega arith)
+    go false false false e = refl
 
 -- a frame is as long as its kind's are
-pub bytes-length : (f : Numbers) → 15 ≤ sizeOf (f .kind) → length (bytesOf f) ≡ sizeOf (f .kind)
-unfolding bytesOf
-bytes-length f h =
+pub bytes-length : (f : Numbers) → length (bytesOf f) ≡ kindLength (f .kind)
+unfolding bytesOf kindLength
+bytes-length f =
     let fs = fieldsOf (f .kind) in
-    packed-length (widths fs) (map (valueOf f) fs) (length-map widthOf fs ∙ sym (length-map (valueOf f) fs)) ∙ widths-total (f .kind) h
+    packed-length (widths fs) (map (valueOf f) fs) (length-map fs widthOf ∙ sym (length-map fs (valueOf f)))
 
 -- ---- there and back
 
-common-fits : (f : Numbers) (more : List Field) → sizeOf (f .kind) < 65536 → f .kind < 65536 → Fit f → Fits (widths more) (map (valueOf f) more)
+common-fits : (f : Numbers) (more : List Field) → kindLength (f .kind) < 65536 → f .kind < 65536 → Fit f → Fits (widths more) (map (valueOf f) more)
     → Fits (widths (common ++ more)) (map (valueOf f) (common ++ more))
 common-fits f more z k h m = (z, (k, (h .sender, (h .target, (h .ballotTick, (h .ballotHost, m))))))
 
 fits : (m : Message) → Fit (numbersOf m) → Fits (widths (fieldsOf (numbersOf m .kind))) (map (valueOf (numbersOf m)) (fieldsOf (numbersOf m .kind)))
-unfolding numbersOf kindOf moreOf
+unfolding numbersOf kindLength moreOf total
 fits (PrepareRequest m) h = common-fits _ [] (lit< tt) (lit< tt) h tt
 fits (PrepareResponseEmpty m) h = common-fits _ [] (lit< tt) (lit< tt) h tt
-fits (PrepareResponseLease m) h = common-fits _ (moreOf 3) (lit< tt) (lit< tt) h (h .acceptedTick, (h .acceptedHost, (h .owner, (h .keepersEnd, tt))))
-fits (ProposeRequest m) h = common-fits _ (moreOf 4) (lit< tt) (lit< tt) h (h .owner, (h .keepersEnd, tt))
+fits (PrepareResponseLease m) h = common-fits _ (moreOf prepareResponseLease) (lit< tt) (lit< tt) h (h .acceptedTick, (h .acceptedHost, (h .owner, (h .keepersEnd, tt))))
+fits (ProposeRequest m) h = common-fits _ (moreOf proposeRequest) (lit< tt) (lit< tt) h (h .owner, (h .keepersEnd, tt))
 fits (ProposeResponse m) h = common-fits _ [] (lit< tt) (lit< tt) h tt
-fits (Learn m) h = common-fits _ (moreOf 6) (lit< tt) (lit< tt) h (h .owner, (h .holdersEnd, tt))
+fits (Learn m) h = common-fits _ (moreOf learn) (lit< tt) (lit< tt) h (h .owner, (h .holdersEnd, tt))
 
 from-values : (m : Message) →
     let f = numbersOf m in
@@ -73,33 +81,43 @@ numbers-back m t h =
     rw (numbers-packed (widths fs) (map (valueOf f) fs) t (fits m h)) (from-values m)
 
 -- numbers that were read are those of a message
-pub message-back : (s : List ℕ) (k : ℕ) → 15 ≤ sizeOf k → numbersOf (messageOf (numbersIn s k)) ≡ numbersIn s k
-unfolding kindOf numbersIn moreOf valueIn numbersAt numbersOf messageOf
-message-back s = by-kind (λ (k : ℕ). 15 ≤ sizeOf k → numbersOf (messageOf (numbersIn s k)) ≡ numbersIn s k) (λ h. absurd (omega arith)) (λ h. refl) (λ h. refl) (λ h. refl) (λ h. refl) (λ h. refl) (λ h. refl) (λ k h. absurd (omega arith))
+pub message-back : (s : List ℕ) (k : ℕ) → knownKind k ≡ true → numbersOf (messageOf (numbersIn s k)) ≡ numbersIn s k
+unfolding numbersIn moreOf valueIn numbersAt numbersOf messageOf
+message-back s = by-kind (λ (k : ℕ). numbersOf (messageOf (numbersIn s k)) ≡ numbersIn s k) refl refl refl refl refl refl
 
 module _ (s : List ℕ) where
-  values-in : (k : ℕ) → 15 ≤ sizeOf k → numberAt s 2 2 ≡ k → numberAt s 0 2 ≡ sizeOf k → map (valueOf (numbersIn s k)) (fieldsOf k) ≡ numbersAt s 0 (widths (fieldsOf k))
-  unfolding kindOf numbersIn moreOf valueIn numbersAt
+  values-in : (k : ℕ) → knownKind k ≡ true → numberAt s 2 2 ≡ k → numberAt s 0 2 ≡ kindLength k → map (valueOf (numbersIn s k)) (fieldsOf k) ≡ numbersAt s 0 (widths (fieldsOf k))
+  unfolding kindLength numbersIn moreOf valueIn numbersAt total
   values-in =
       by-kind
-      (λ (k : ℕ). 15 ≤ sizeOf k → numberAt s 2 2 ≡ k → numberAt s 0 2 ≡ sizeOf k → map (valueOf (numbersIn s k)) (fieldsOf k) ≡ numbersAt s 0 (widths (fieldsOf k)))
-      (λ h a z. absurd (omega arith))
-      (λ h a z. rw (a, z))
-      (λ h a z. rw (a, z))
-      (λ h a z. rw (a, z))
-      (λ h a z. rw (a, z))
-      (λ h a z. rw (a, z))
-      (λ h a z. rw (a, z))
-      (λ k h a z. absurd (omega arith))
+      (λ (k : ℕ). numberAt s 2 2 ≡ k → numberAt s 0 2 ≡ kindLength k → map (valueOf (numbersIn s k)) (fieldsOf k) ≡ numbersAt s 0 (widths (fieldsOf k)))
+      (λ a l. rw (a, l))
+      (λ a l. rw (a, l))
+      (λ a l. rw (a, l))
+      (λ a l. rw (a, l))
+      (λ a l. rw (a, l))
+      (λ a l. rw (a, l))
 
   -- what was read is written: the bytes that were there
-  pub bytes-back : (k : ℕ) → ((i : ℕ) → getD s i 0 < 256) → 15 ≤ sizeOf k → sizeOf k ≤ length s → numberAt s 2 2 ≡ k → numberAt s 0 2 ≡ sizeOf k → bytesOf (numbersIn s k) ≡ take (sizeOf k) s
-  unfolding bytesOf numbersIn
-  bytes-back k b h l a z =
-      let e = widths-total k h in
-      ap (packed (widths (fieldsOf k))) (values-in k h a z) ∙ packed-numbers s 0 (widths (fieldsOf k)) b (omega (arith, e)) ∙ ap (λ (n : ℕ). take n s) e
+  pub bytes-back : (k : ℕ) → ((i : ℕ) → getD s i 0 < 256) → knownKind k ≡ true → kindLength k ≤ length s → numberAt s 2 2 ≡ k → numberAt s 0 2 ≡ kindLength k → bytesOf (numbersIn s k) ≡ take (kindLength k) s
+  unfolding bytesOf numbersIn kindLength
+  bytes-back k b h l a e = ap (packed (widths (fieldsOf k))) (values-in k h a e) ∙ packed-numbers s 0 (widths (fieldsOf k)) b (omega (arith, l))
 
   -- bytes after a whole frame are not looked at
-  pub numbers-whole : (t : List ℕ) (k : ℕ) → 15 ≤ sizeOf k → sizeOf k ≤ length s → numbersIn (s ++ t) k ≡ numbersIn s k
-  unfolding numbersIn
-  numbers-whole t k h l = let e = widths-total k h in rw (numbers-within s t 0 (widths (fieldsOf k)) (omega (arith, e)))
+  pub numbers-whole : (t : List ℕ) (k : ℕ) → kindLength k ≤ length s → numbersIn (s ++ t) k ≡ numbersIn s k
+  unfolding numbersIn kindLength
+  numbers-whole t k l = rw (numbers-within s t 0 (widths (fieldsOf k)) (omega (arith, l)))
+
+-- ---- the constants are those of the table
+
+pub record Constants : Type 0 where
+  pub length-stands : offsetIn common frameLength ≡ lengthOffset
+  pub kind-stands : offsetIn common kindNumber ≡ kindOffset
+  pub fore : offsetIn common sender ≡ foreLength
+  pub ballot-stands : offsetIn common ballotTick ≡ ballotOffset
+  pub head : total (widths common) ≡ headLength
+  pub most : kindLength prepareResponseLease ≡ mostLength
+
+pub constants : Constants
+unfolding offsetIn total kindLength moreOf
+constants = record { length-stands = refl; kind-stands = refl; fore = refl; ballot-stands = refl; head = refl; most = refl }

@@ -1,14 +1,11 @@
 -- The layout of frames: document 01's fields, their widths and their order, and a frame's bytes as numbers and back. Assumes nothing.
-use Prim.Native.Nat.{ℕ, _^_, _<_}
+use Prim.Native.Nat.{ℕ, _+_, _^_, _<_}
 use mathlib.Core.Bool.{cond}
 use mathlib.Core.List.{List, [], _∷_, _++_, map}
-use lib.ListN.{getD}
 use lib.Dec.{eqb}
-use Rattle.wire.specs.Wire.{numberAt, numbersAt, packed}
-use Rattle.message.specs.declared.Head.{Head}
-use Rattle.message.specs.declared.Lease.{Lease}
+use Rattle.wire.specs.Wire.{total, numbersAt, packed}
 use Rattle.message.specs.declared.Numbers.{Numbers}
-use Rattle.message.specs.Message.{sizeOf}
+use Rattle.message.specs.Message.{prepareResponseLease, proposeRequest, learn}
 use Rattle.message.specs.Faults.{Field, settings, lentBytes, frameLength, kindNumber, sender, target, ballotTick, ballotHost, acceptedTick, acceptedHost, owner, keepersEnd, holdersEnd}
 
 -- how many bytes a field takes
@@ -31,20 +28,12 @@ widthOf holdersEnd = 8
 abbrev pub common : List Field
 common = frameLength ∷ kindNumber ∷ sender ∷ target ∷ ballotTick ∷ ballotHost ∷ []
 
--- those after them, by kind from 0 on
-abbrev pub mores : List (List Field)
-mores =
-    []
-    ∷ []
-    ∷ []
-    ∷ (acceptedTick ∷ acceptedHost ∷ owner ∷ keepersEnd ∷ [])
-    ∷ (owner ∷ keepersEnd ∷ [])
-    ∷ []
-    ∷ (owner ∷ holdersEnd ∷ [])
-    ∷ []
-
+-- those after them
 unfoldable pub moreOf : ℕ → List Field
-moreOf k = getD mores k []
+moreOf k =
+    cond (eqb k prepareResponseLease) (acceptedTick ∷ acceptedHost ∷ owner ∷ keepersEnd ∷ [])
+    (cond (eqb k proposeRequest) (owner ∷ keepersEnd ∷ [])
+    (cond (eqb k learn) (owner ∷ holdersEnd ∷ []) []))
 
 abbrev pub fieldsOf : ℕ → List Field
 fieldsOf k = common ++ moreOf k
@@ -52,13 +41,65 @@ fieldsOf k = common ++ moreOf k
 abbrev pub widths : List Field → List ℕ
 widths fs = map widthOf fs
 
+-- the length of a kind's frames
+unfoldable pub kindLength : ℕ → ℕ
+kindLength k = total (widths (fieldsOf k))
+
+-- a number for each field, to tell them apart
+abbrev pub fieldNumber : Field → ℕ
+fieldNumber settings = 0
+fieldNumber lentBytes = 1
+fieldNumber frameLength = 2
+fieldNumber kindNumber = 3
+fieldNumber sender = 4
+fieldNumber target = 5
+fieldNumber ballotTick = 6
+fieldNumber ballotHost = 7
+fieldNumber acceptedTick = 8
+fieldNumber acceptedHost = 9
+fieldNumber owner = 10
+fieldNumber keepersEnd = 11
+fieldNumber holdersEnd = 12
+
+-- ---- where each field stands
+
+-- where a field stands among these, the first of them at 0
+unfoldable pub offsetIn : List Field → Field → ℕ
+offsetIn [] x = 0
+offsetIn (f ∷ fs) x = cond (eqb (fieldNumber f) (fieldNumber x)) 0 (widthOf f + offsetIn fs x)
+
+-- in a frame of kind k
+abbrev pub offsetOf : ℕ → Field → ℕ
+offsetOf k x = offsetIn (fieldsOf k) x
+
+-- where length and kind stand, and how long these two are, which every frame begins with
+abbrev pub lengthOffset : ℕ
+lengthOffset = 0
+
+abbrev pub kindOffset : ℕ
+kindOffset = 2
+
+abbrev pub foreLength : ℕ
+foreLength = 4
+
+-- where the ballot begins, and how long the head is, the fields that every frame begins with
+abbrev pub ballotOffset : ℕ
+ballotOffset = 6
+
+abbrev pub headLength : ℕ
+headLength = 15
+
+-- how long the longest frame is
+abbrev pub mostLength : ℕ
+mostLength = 33
+
 -- ---- numbers as bytes
 
 -- what a message's numbers have in a field
 abbrev pub valueOf : Numbers → Field → ℕ
 valueOf f settings = 0
 valueOf f lentBytes = 0
-valueOf f frameLength = sizeOf (f .kind)
+valueOf f frameLength = kindLength (f .kind)
 valueOf f kindNumber = f .kind
 valueOf f sender = f .sender
 valueOf f target = f .target
@@ -79,22 +120,6 @@ unfoldable pub bytesOf : Numbers → List ℕ
 bytesOf f = bytesIn f (fieldsOf (f .kind))
 
 -- ---- bytes as numbers
-
--- a number for each field, to tell them apart
-abbrev pub fieldNumber : Field → ℕ
-fieldNumber settings = 0
-fieldNumber lentBytes = 1
-fieldNumber frameLength = 2
-fieldNumber kindNumber = 3
-fieldNumber sender = 4
-fieldNumber target = 5
-fieldNumber ballotTick = 6
-fieldNumber ballotHost = 7
-fieldNumber acceptedTick = 8
-fieldNumber acceptedHost = 9
-fieldNumber owner = 10
-fieldNumber keepersEnd = 11
-fieldNumber holdersEnd = 12
 
 -- the value of a field where fields have these values; 0 where it is none of them
 unfoldable pub valueIn : List Field → List ℕ → Field → ℕ
@@ -118,14 +143,6 @@ numbersFrom k fs vs = record {
 -- the numbers in a frame of kind k at the start of s
 unfoldable pub numbersIn : List ℕ → ℕ → Numbers
 numbersIn s k = numbersFrom k (fieldsOf k) (numbersAt s 0 (widths (fieldsOf k)))
-
--- ---- the groups that the code reads together; its proof ties these offsets to those of `numbersIn`
-
-abbrev pub headAt : List ℕ → Head
-headAt s = record { sender = numberAt s 4 1; target = numberAt s 5 1; ballot = record { tick = numberAt s 6 8; host = numberAt s 14 1 } }
-
-abbrev pub leaseAt : List ℕ → Lease
-leaseAt s = record { ballot = record { tick = numberAt s 15 8; host = numberAt s 23 1 }; owner = numberAt s 24 1; end = record { 0 = numberAt s 25 8 } }
 
 -- ---- what a frame can hold
 

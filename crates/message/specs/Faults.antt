@@ -4,9 +4,10 @@ use mathlib.Core.Bool.{Bool, cond}
 use mathlib.Core.List.{List, [], _∷_}
 use lib.Dec.{ltb, leb, eqb}
 use Rattle.base.specs.Refusals.{Test, test, Refusal, refusal, answer, refusedHost, refusedTick, refusedParty}
-use Rattle.quorum.specs.Sets.{isBelow, isOnly}
+use Rattle.quorum.specs.Sets.{cellFits, isBelow, isOnly}
+use Rattle.message.specs.declared.Sizes.{Sizes}
 use Rattle.message.specs.declared.Numbers.{Numbers}
-use Rattle.message.specs.Message.{lastTick, lastEnd, kindOf}
+use Rattle.message.specs.Message.{lastTick, lastEnd, isResponse}
 
 -- the fields that a refusal may be found at: those of a frame, the settings handed in beside it, and the lent bytes themselves
 pub data Field : Type 0 where
@@ -24,14 +25,22 @@ pub data Field : Type 0 where
   keepersEnd : Field
   holdersEnd : Field
 
+-- what is handed beside a frame, from its numbers
+abbrev pub sizes : ℕ → Sizes
+sizes n = record { n = n }
+
+-- 1: how many hosts the cell has
+abbrev pub sizesFit : Sizes → Bool
+sizesFit z = cellFits (z .n)
+
 -- 5: a host number of n or more
-abbrev pub hostTests : ℕ → Numbers → Bool → List (Test Field)
-hostTests n f targetFits =
-    test sender (ltb (f .sender) n)
+abbrev pub hostTests : Sizes → Numbers → Bool → List (Test Field)
+hostTests z f targetFits =
+    test sender (ltb (f .sender) (z .n))
     ∷ test target targetFits
-    ∷ test ballotHost (ltb (f .ballot .host) n)
-    ∷ test acceptedHost (ltb (f .accepted .host) n)
-    ∷ test owner (ltb (f .owner) n)
+    ∷ test ballotHost (ltb (f .ballot .host) (z .n))
+    ∷ test acceptedHost (ltb (f .accepted .host) (z .n))
+    ∷ test owner (ltb (f .owner) (z .n))
     ∷ []
 
 -- 6: a tick or an end above its limit
@@ -45,32 +54,32 @@ tickTests f =
 
 -- which of sender and target has to be the ballot's host
 abbrev pub partyField : Numbers → Field
-partyField f = cond (kindOf (f .kind) .response) target sender
+partyField f = cond (isResponse (f .kind)) target sender
 
 -- 5, 6, 7, given what was found of the target and of the party
-abbrev pub messageRefusals : ℕ → Numbers → Bool → Bool → List (Refusal Field)
-messageRefusals n f targetFits partyFits =
-    refusal refusedHost (hostTests n f targetFits)
+abbrev pub messageRefusals : Sizes → Numbers → Bool → Bool → List (Refusal Field)
+messageRefusals z f targetFits partyFits =
+    refusal refusedHost (hostTests z f targetFits)
     ∷ refusal refusedTick (tickTests f)
     ∷ refusal refusedParty (test (partyField f) partyFits ∷ [])
     ∷ []
 
--- a message to its own target: in kinds 1, 4 and 6 the sender is the ballot's host, in 2, 3 and 5 the target is
+-- a message to its own target: in a response that is the ballot's host, in any other the sender is
 unfoldable pub partyFits : Numbers → Bool
-partyFits f = cond (kindOf (f .kind) .response) (eqb (f .target) (f .ballot .host)) (eqb (f .sender) (f .ballot .host))
+partyFits f = cond (isResponse (f .kind)) (eqb (f .target) (f .ballot .host)) (eqb (f .sender) (f .ballot .host))
 
-abbrev pub refusalsOf : ℕ → Numbers → List (Refusal Field)
-refusalsOf n f = messageRefusals n f (ltb (f .target) n) (partyFits f)
+abbrev pub refusalsOf : Sizes → Numbers → List (Refusal Field)
+refusalsOf z f = messageRefusals z f (ltb (f .target) (z .n)) (partyFits f)
 
-unfoldable pub faultOf : ℕ → Numbers → ℕ
-faultOf n f = answer (refusalsOf n f)
+unfoldable pub faultOf : Sizes → Numbers → ℕ
+faultOf z f = answer (refusalsOf z f)
 
--- a message to a set of receivers, its own target not looked at: the set names no host of n or more, and in kinds 2, 3 and 5 none but the ballot's host
+-- a message to a set of receivers, its own target not looked at: the set names no host of n or more, and in a response none but the ballot's host
 unfoldable pub partyFitsTo : Numbers → ℕ → Bool
-partyFitsTo f set = cond (kindOf (f .kind) .response) (isOnly set (f .ballot .host)) (eqb (f .sender) (f .ballot .host))
+partyFitsTo f set = cond (isResponse (f .kind)) (isOnly set (f .ballot .host)) (eqb (f .sender) (f .ballot .host))
 
-abbrev pub refusalsTo : ℕ → Numbers → ℕ → List (Refusal Field)
-refusalsTo n f set = messageRefusals n f (isBelow set n) (partyFitsTo f set)
+abbrev pub refusalsTo : Sizes → Numbers → ℕ → List (Refusal Field)
+refusalsTo z f set = messageRefusals z f (isBelow set (z .n)) (partyFitsTo f set)
 
-unfoldable pub faultTo : ℕ → Numbers → ℕ → ℕ
-faultTo n f set = answer (refusalsTo n f set)
+unfoldable pub faultTo : Sizes → Numbers → ℕ → ℕ
+faultTo z f set = answer (refusalsTo z f set)

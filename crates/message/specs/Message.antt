@@ -1,14 +1,11 @@
 -- Document 01's ballots, ends, messages and kinds, and a message as numbers. Assumes nothing.
 use Prim.Native.Nat.{ℕ, _+_, _-_, _^_}
-use mathlib.Core.Bool.{Bool, true, false, cond, _&&_}
-use mathlib.Core.List.{List, [], _∷_}
-use lib.ListN.{getD}
-use lib.Dec.{ltb, eqb}
+use mathlib.Core.Bool.{Bool, cond, _&&_, _||_}
+use lib.Dec.{ltb, leb, eqb}
 use Rattle.message.specs.declared.Ballot.{Ballot}
 use Rattle.message.specs.declared.KeepersEnd.{KeepersEnd}
 use Rattle.message.specs.declared.HoldersEnd.{HoldersEnd}
 use Rattle.message.specs.declared.Head.{Head}
-use Rattle.message.specs.declared.Kind.{Kind}
 use Rattle.message.specs.declared.Numbers.{Numbers}
 use Rattle.message.specs.declared.Message.{Message}
 use Rattle.message.specs.declared.Message.the-variants.{PrepareRequest, PrepareResponseEmpty, PrepareResponseLease, ProposeRequest, ProposeResponse, Learn}
@@ -24,11 +21,11 @@ unfoldable pub lastEnd : ℕ
 lastEnd = 2 ^ 48 + 2 ^ 31
 
 -- the holder's end is S ticks before the keepers' end
-abbrev pub holdersOf : KeepersEnd → ℕ → HoldersEnd
-holdersOf e spread = record { 0 = e .0 - spread }
+abbrev pub toHolders : KeepersEnd → ℕ → HoldersEnd
+toHolders e spread = record { 0 = e .0 - spread }
 
-abbrev pub keepersOf : HoldersEnd → ℕ → KeepersEnd
-keepersOf e spread = record { 0 = e .0 + spread }
+abbrev pub toKeepers : HoldersEnd → ℕ → KeepersEnd
+toKeepers e spread = record { 0 = e .0 + spread }
 
 -- ---- ballots, ordered by tick, then host (004)
 
@@ -58,19 +55,13 @@ proposeResponse = 5
 abbrev pub learn : ℕ
 learn = 6
 
-abbrev pub kindRow : ℕ → Bool → Kind
-kindRow l r = record { len = l; response = r }
+-- whether a number is a kind
+unfoldable pub knownKind : ℕ → Bool
+knownKind k = leb prepareRequest k && leb k learn
 
--- a frame's length, and whether the message is a response, by kind from 0 on; there is no kind 0, and none is 0 long
-abbrev pub kinds : List Kind
-kinds = kindRow 0 false ∷ kindRow 15 false ∷ kindRow 15 true ∷ kindRow 33 true ∷ kindRow 24 false ∷ kindRow 15 true ∷ kindRow 24 false ∷ []
-
-unfoldable pub kindOf : ℕ → Kind
-kindOf k = getD kinds k (kindRow 0 false)
-
--- the length of a kind's frames; 0 where there is no such kind
-abbrev pub sizeOf : ℕ → ℕ
-sizeOf k = kindOf k .len
+-- the kinds that answer a request: their target is the ballot's host, and of any other kind the sender is
+unfoldable pub isResponse : ℕ → Bool
+isResponse k = eqb k prepareResponseEmpty || (eqb k prepareResponseLease || eqb k proposeResponse)
 
 -- ---- a message as numbers
 
@@ -83,22 +74,25 @@ noKeepers = record { 0 = 0 }
 abbrev pub noHolders : HoldersEnd
 noHolders = record { 0 = 0 }
 
-abbrev pub numbers : ℕ → Head → Ballot → ℕ → KeepersEnd → HoldersEnd → Numbers
-numbers k h a o e f = record { kind = k; sender = h .sender; target = h .target; ballot = h .ballot; accepted = a; owner = o; keepers = e; holders = f }
+abbrev pub headWith : ℕ → ℕ → Ballot → Head
+headWith s t b = record { sender = s; target = t; ballot = b }
+
+abbrev pub numbersWith : ℕ → Head → Ballot → ℕ → KeepersEnd → HoldersEnd → Numbers
+numbersWith k h a o e f = record { kind = k; sender = h .sender; target = h .target; ballot = h .ballot; accepted = a; owner = o; keepers = e; holders = f }
 
 -- the numbers of a message; those that its kind lacks are 0
 unfoldable pub numbersOf : Message → Numbers
-numbersOf (PrepareRequest h) = numbers prepareRequest h noBallot 0 noKeepers noHolders
-numbersOf (PrepareResponseEmpty h) = numbers prepareResponseEmpty h noBallot 0 noKeepers noHolders
-numbersOf (PrepareResponseLease m) = numbers prepareResponseLease (m .head) (m .accepted .ballot) (m .accepted .owner) (m .accepted .end) noHolders
-numbersOf (ProposeRequest m) = numbers proposeRequest (m .head) noBallot (m .owner) (m .end) noHolders
-numbersOf (ProposeResponse h) = numbers proposeResponse h noBallot 0 noKeepers noHolders
-numbersOf (Learn m) = numbers learn (m .head) noBallot (m .owner) noKeepers (m .end)
+numbersOf (PrepareRequest h) = numbersWith prepareRequest h noBallot 0 noKeepers noHolders
+numbersOf (PrepareResponseEmpty h) = numbersWith prepareResponseEmpty h noBallot 0 noKeepers noHolders
+numbersOf (PrepareResponseLease m) = numbersWith prepareResponseLease (m .head) (m .accepted .ballot) (m .accepted .owner) (m .accepted .end) noHolders
+numbersOf (ProposeRequest m) = numbersWith proposeRequest (m .head) noBallot (m .owner) (m .end) noHolders
+numbersOf (ProposeResponse h) = numbersWith proposeResponse h noBallot 0 noKeepers noHolders
+numbersOf (Learn m) = numbersWith learn (m .head) noBallot (m .owner) noKeepers (m .end)
 
 abbrev pub headOf : Numbers → Head
-headOf f = record { sender = f .sender; target = f .target; ballot = f .ballot }
+headOf f = headWith (f .sender) (f .target) (f .ballot)
 
--- the message that numbers of a kind are of; a number that is no kind is taken as 6, and callers have refused it before, by 3
+-- the message that numbers of a kind are of; a number that is no kind is taken as a learn message's, and callers have refused it before, by 3
 unfoldable pub messageOf : Numbers → Message
 messageOf f =
     cond (eqb (f .kind) prepareRequest) (PrepareRequest (headOf f))
@@ -112,5 +106,8 @@ messageOf f =
 abbrev pub withTarget : Numbers → ℕ → Numbers
 withTarget f h = record { kind = f .kind; sender = f .sender; target = h; ballot = f .ballot; accepted = f .accepted; owner = f .owner; keepers = f .keepers; holders = f .holders }
 
-unfoldable pub messageTo : Message → ℕ → Message
-messageTo m h = messageOf (withTarget (numbersOf m) h)
+unfoldable pub addressedTo : Message → ℕ → Message
+addressedTo m h = messageOf (withTarget (numbersOf m) h)
+
+abbrev pub targetOf : Message → ℕ
+targetOf m = numbersOf m .target

@@ -2,12 +2,23 @@
 ghost use mathlib.Core.Path.{_≡_};
 ghost use Prim.Native.Nat.{_+_, _-_, _≤_};
 ghost use Rattle.base.specs.Refusals.{allHold, answer};
-ghost use Rattle.message.specs.Message.{lastEnd, isAbove, isSame, holdersOf, keepersOf, kindRow, kindOf, numbers, numbersOf, headOf, messageOf, withTarget};
-ghost use Rattle.message.specs.Faults.{hostTests, tickTests, messageRefusals, partyFits, partyFitsTo, faultOf, faultTo};
+ghost use Rattle.message.specs.Message.{lastEnd, isAbove, isSame, toHolders, toKeepers, knownKind, isResponse, headWith, numbersWith, numbersOf, headOf, messageOf, withTarget, addressedTo, targetOf};
+ghost use Rattle.message.specs.Faults.{sizesFit, hostTests, tickTests, messageRefusals, partyFits, partyFitsTo, faultOf, faultTo};
 use base::DONE;
 use base::REFUSED_HOST;
 use base::REFUSED_PARTY;
 use base::REFUSED_TICK;
+
+// What whoever reads or writes frames is handed: how many hosts the cell has.
+pub struct Sizes {
+    pub n: u8,
+}
+
+pub fn sizes_fit(z: Sizes) -> bool
+    ensures { λ r. ⌜ r ≡ sizesFit z ⌝ }
+{
+    quorum::cell_fits(z.n)
+}
 
 // The last tick of a clock, 2^48.
 pub const LAST_TICK: u64 = 281474976710656;
@@ -22,7 +33,7 @@ pub struct Ballot {
 
 impl Ballot {
     // Whether this ballot is above another: by tick, then by host.
-    pub fn above(self, other: Ballot) -> bool
+    pub fn is_above(self, other: Ballot) -> bool
         ensures { λ r. ⌜ r ≡ isAbove self other ⌝ }
     {
         if self.tick == other.tick {
@@ -31,7 +42,7 @@ impl Ballot {
         other.tick < self.tick
     }
 
-    pub fn same(self, other: Ballot) -> bool
+    pub fn is_same(self, other: Ballot) -> bool
         ensures { λ r. ⌜ r ≡ isSame self other ⌝ }
     {
         (self.tick == other.tick) & (self.host == other.host)
@@ -48,7 +59,7 @@ impl KeepersEnd {
     // The holder's end of the same lease, S earlier.
     pub fn to_holders(self, spread: u32) -> HoldersEnd
         requires { ⌜ spread ≤ self .0 ⌝ }
-        ensures { λ r. ⌜ r ≡ holdersOf self spread ⌝ }
+        ensures { λ r. ⌜ r ≡ toHolders self spread ⌝ }
     {
         HoldersEnd(self.0 - spread as u64)
     }
@@ -58,7 +69,7 @@ impl HoldersEnd {
     // The keepers' end of the same lease, S later.
     pub fn to_keepers(self, spread: u32) -> KeepersEnd
         requires { ⌜ self .0 ≤ lastEnd ⌝ }
-        ensures { λ r. ⌜ r ≡ keepersOf self spread ⌝ }
+        ensures { λ r. ⌜ r ≡ toKeepers self spread ⌝ }
     {
         KeepersEnd(self.0 + spread as u64)
     }
@@ -76,6 +87,16 @@ pub struct Head {
     pub sender: u8,
     pub target: u8,
     pub ballot: Ballot,
+}
+
+pub fn head_with(sender: u8, target: u8, ballot: Ballot) -> Head
+    ensures { λ r. ⌜ r ≡ headWith sender target ballot ⌝ }
+{
+    Head {
+        sender,
+        target,
+        ballot,
+    }
 }
 
 pub struct LeaseResponse {
@@ -117,30 +138,22 @@ pub const PROPOSE_RESPONSE: u16 = 5;
 
 pub const LEARN: u16 = 6;
 
-// A kind of message: its frame's length, and whether it is a response. A response's target is the ballot's host; of any other the sender is.
-pub struct Kind {
-    pub len: usize,
-    pub response: bool,
-}
-
-fn kind_row(len: usize, response: bool) -> Kind
-    ensures { λ r. ⌜ r ≡ kindRow len response ⌝ }
+// Whether a number is a kind.
+pub fn known_kind(kind: u16) -> bool
+    ensures { λ r. ⌜ r ≡ knownKind kind ⌝ }
 {
-    Kind { len, response }
+    (PREPARE_REQUEST <= kind) & (kind <= LEARN)
 }
 
-// The table of kinds. None is 0 long, so a length of 0 says that there is no such kind.
-pub fn kind_of(kind: u16) -> Kind
-    ensures { λ r. ⌜ r ≡ kindOf kind ⌝ }
+// Whether a kind answers a request. A response's target is the ballot's host; of any other kind the sender is.
+pub fn is_response(kind: u16) -> bool
+    ensures { λ r. ⌜ r ≡ isResponse kind ⌝ }
 {
     match kind {
-        1 => kind_row(15, false),
-        2 => kind_row(15, true),
-        3 => kind_row(33, true),
-        4 => kind_row(24, false),
-        5 => kind_row(15, true),
-        6 => kind_row(24, false),
-        _ => kind_row(0, false),
+        PREPARE_RESPONSE_EMPTY => true,
+        PREPARE_RESPONSE_LEASE => true,
+        PROPOSE_RESPONSE => true,
+        _ => false,
     }
 }
 
@@ -164,7 +177,7 @@ pub fn numbers_with(
     keepers: KeepersEnd,
     holders: HoldersEnd,
 ) -> Numbers
-    ensures { λ r. ⌜ r ≡ numbers kind head accepted owner keepers holders ⌝ }
+    ensures { λ r. ⌜ r ≡ numbersWith kind head accepted owner keepers holders ⌝ }
 {
     let ballot = head.ballot;
     Numbers {
@@ -238,15 +251,11 @@ pub fn head_of(f: Numbers) -> Head
     ensures { λ r. ⌜ r ≡ headOf f ⌝ }
 {
     let ballot = f.ballot;
-    Head {
-        sender: f.sender,
-        target: f.target,
-        ballot,
-    }
+    head_with(f.sender, f.target, ballot)
 }
 
-// The message that numbers of a kind are of; those that the kind lacks are not looked at. A number that is no kind is taken as 6: callers
-// have refused it before, by 3.
+// The message that numbers of a kind are of; those that the kind lacks are not looked at. A number that is no kind is taken as a
+// learn message: callers have refused it before, by 3.
 pub fn message_of(f: Numbers) -> Message
     ensures { λ r. ⌜ r ≡ messageOf f ⌝ }
 {
@@ -257,9 +266,9 @@ pub fn message_of(f: Numbers) -> Message
     let holders = f.holders;
     let kind = f.kind;
     match kind {
-        1 => Message::PrepareRequest(head),
-        2 => Message::PrepareResponseEmpty(head),
-        3 => Message::PrepareResponseLease(LeaseResponse {
+        PREPARE_REQUEST => Message::PrepareRequest(head),
+        PREPARE_RESPONSE_EMPTY => Message::PrepareResponseEmpty(head),
+        PREPARE_RESPONSE_LEASE => Message::PrepareResponseLease(LeaseResponse {
             head,
             accepted: Lease {
                 ballot,
@@ -267,12 +276,12 @@ pub fn message_of(f: Numbers) -> Message
                 end: keepers,
             },
         }),
-        4 => Message::ProposeRequest(Proposal {
+        PROPOSE_REQUEST => Message::ProposeRequest(Proposal {
             head,
             owner,
             end: keepers,
         }),
-        5 => Message::ProposeResponse(head),
+        PROPOSE_RESPONSE => Message::ProposeResponse(head),
         _ => Message::Learn(LearnedLease {
             head,
             owner,
@@ -290,10 +299,24 @@ pub fn with_target(f: Numbers, target: u8) -> Numbers
     g
 }
 
-pub fn hosts_fit(n: u8, f: Numbers, target_ok: bool) -> bool
-    ensures { λ r. ⌜ r ≡ allHold (hostTests n f «target_ok») ⌝ }
+// The same message to another target.
+pub fn addressed_to(m: Message, host: u8) -> Message
+    ensures { λ r. ⌜ r ≡ addressedTo m host ⌝ }
 {
-    (f.sender < n) & (target_ok & ((f.ballot.host < n) & ((f.accepted.host < n) & (f.owner < n))))
+    message_of(with_target(numbers_of(m), host))
+}
+
+pub fn target_of(m: Message) -> u8
+    ensures { λ r. ⌜ r ≡ targetOf m ⌝ }
+{
+    numbers_of(m).target
+}
+
+pub fn hosts_fit(z: Sizes, f: Numbers, target_ok: bool) -> bool
+    ensures { λ r. ⌜ r ≡ allHold (hostTests z f «target_ok») ⌝ }
+{
+    (f.sender < z.n)
+        & (target_ok & ((f.ballot.host < z.n) & ((f.accepted.host < z.n) & (f.owner < z.n))))
 }
 
 pub fn ticks_fit(f: Numbers) -> bool
@@ -304,10 +327,10 @@ pub fn ticks_fit(f: Numbers) -> bool
 }
 
 // The number of the first refusal that a message's numbers meet, or 0, given what was found of its target and of its party.
-pub fn fault_with(n: u8, f: Numbers, target_ok: bool, party_ok: bool) -> u8
-    ensures { λ r. ⌜ r ≡ answer (messageRefusals n f «target_ok» «party_ok») ⌝ }
+pub fn fault_with(z: Sizes, f: Numbers, target_ok: bool, party_ok: bool) -> u8
+    ensures { λ r. ⌜ r ≡ answer (messageRefusals z f «target_ok» «party_ok») ⌝ }
 {
-    if hosts_fit(n, f, target_ok) {
+    if hosts_fit(z, f, target_ok) {
         if ticks_fit(f) {
             if party_ok { DONE } else { REFUSED_PARTY }
         } else {
@@ -322,7 +345,7 @@ pub fn fault_with(n: u8, f: Numbers, target_ok: bool, party_ok: bool) -> u8
 pub fn party_fits(f: Numbers) -> bool
     ensures { λ r. ⌜ r ≡ partyFits f ⌝ }
 {
-    if kind_of(f.kind).response {
+    if is_response(f.kind) {
         f.target == f.ballot.host
     } else {
         f.sender == f.ballot.host
@@ -330,17 +353,17 @@ pub fn party_fits(f: Numbers) -> bool
 }
 
 // What is refused in a message to its own target.
-pub fn fault(n: u8, f: Numbers) -> u8
-    ensures { λ r. ⌜ r ≡ faultOf n f ⌝ }
+pub fn fault(z: Sizes, f: Numbers) -> u8
+    ensures { λ r. ⌜ r ≡ faultOf z f ⌝ }
 {
-    fault_with(n, f, f.target < n, party_fits(f))
+    fault_with(z, f, f.target < z.n, party_fits(f))
 }
 
 // Whether the sender is the ballot's host, or a response's receivers are no host but that.
 pub fn party_fits_to(f: Numbers, set: u16) -> bool
     ensures { λ r. ⌜ r ≡ partyFitsTo f set ⌝ }
 {
-    if kind_of(f.kind).response {
+    if is_response(f.kind) {
         quorum::is_only(set, f.ballot.host)
     } else {
         f.sender == f.ballot.host
@@ -348,8 +371,8 @@ pub fn party_fits_to(f: Numbers, set: u16) -> bool
 }
 
 // What is refused in a message to a set of receivers; its own target is not looked at.
-pub fn fault_to(n: u8, f: Numbers, set: u16) -> u8
-    ensures { λ r. ⌜ r ≡ faultTo n f set ⌝ }
+pub fn fault_to(z: Sizes, f: Numbers, set: u16) -> u8
+    ensures { λ r. ⌜ r ≡ faultTo z f set ⌝ }
 {
-    fault_with(n, f, quorum::is_below(set, n), party_fits_to(f, set))
+    fault_with(z, f, quorum::is_below(set, z.n), party_fits_to(f, set))
 }

@@ -1,12 +1,15 @@
--- Laws of the first n hosts, each changed. Assumes nothing.
+-- Laws of the first n hosts, each changed, and of the first number that one of them is refused by. Assumes nothing.
 use mathlib.Core.Path.{_≡_, refl, ap, _∙_}
-use mathlib.Core.List.{List, [], _∷_}
+use mathlib.Core.List.{List, [], _∷_, map}
 use Prim.Native.Nat.{ℕ, zero, suc, _+_, _≤_, _<_}
 use native.Mathlib.Nat.{not-suc-le-zero, le-of-suc-le-suc}
 use native.Mathlib.Numerals.{add-one}
-use lib.ListN.{length, getD, set}
+use native.Mathlib.Omega.{arith}
+use lib.ListN.{length, getD, set, take}
+use Rattle.base.specs.Refusals.{done, firstOf}
+use Rattle.base.proofs.Tests.{first-passed, first-of}
 use Rattle.host.specs.declared.Host.{Host}
-use Rattle.places.specs.Places.{eachHost}
+use Rattle.places.specs.Places.{blankHost, eachHost}
 
 pub length-each : (n : ℕ) (f : Host → Host) (hs : List Host) → length (eachHost n f hs) ≡ length hs
 unfolding eachHost
@@ -37,3 +40,17 @@ each-suc (suc i) f (h ∷ hs) d b = ap (λ (ks : List Host). f h ∷ ks) (each-s
 -- one host more
 pub each-next : (i : ℕ) (f : Host → Host) (hs : List Host) (d : Host) → i < length hs → eachHost (i + 1) f hs ≡ set (eachHost i f hs) i (f (getD hs i d))
 each-next i f hs d b = ap (λ (k : ℕ). eachHost k f hs) (add-one i) ∙ each-suc i f hs d b
+
+-- ---- the first of the numbers that the first n hosts are refused by
+
+pub first-each : (f : Host → ℕ) (n : ℕ) (hs : List Host) → firstOf (map f (take n hs)) ≡ done → (k : ℕ) → k < n → k < length hs → f (getD hs k blankHost) ≡ done
+first-each f zero hs e k a b = absurd (not-suc-le-zero a)
+first-each f (suc n) [] e k a b = absurd (not-suc-le-zero b)
+first-each f (suc n) (h ∷ hs) e zero a b = first-passed (f h) (map f (take n hs)) e .0
+first-each f (suc n) (h ∷ hs) e (suc k) a b = first-each f n hs (first-passed (f h) (map f (take n hs)) e .1) k (le-of-suc-le-suc a) (le-of-suc-le-suc b)
+
+pub each-of : (P : ℕ → Type 0) (f : Host → ℕ) (n : ℕ) (hs : List Host) → P done → ((k : ℕ) → k < n → P (f (getD hs k blankHost))) → P (firstOf (map f (take n hs)))
+unfolding firstOf
+each-of P f zero hs z p = z
+each-of P f (suc n) [] z p = z
+each-of P f (suc n) (h ∷ hs) z p = first-of P (f h) (map f (take n hs)) (p zero (omega arith)) (λ _. each-of P f n hs z (λ k b. p (suc k) (omega (arith, b))))

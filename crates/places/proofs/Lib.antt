@@ -1,4 +1,4 @@
-pub mod Limits
+pub mod PlaceLimits
 pub mod Each
 pub mod Walks
-pub mod Steps
+pub mod Opening

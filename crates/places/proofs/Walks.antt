@@ -3,24 +3,26 @@ use mathlib.Core.Path.{_≡_, refl, sym, ap, _∙_}
 use mathlib.Core.Bool.{Bool, true, false}
 use mathlib.Core.List.{List, _∷_, map}
 use Prim.Native.Nat.{ℕ, _+_, _-_, _≤_, _<_, max, min}
+use native.Mathlib.Nat.{le-refl}
 use native.Mathlib.Omega.{arith}
 use native.Mathlib.Decide.{decLt}
-use lib.Dec.{leb, eqb}
-use lib.ListN.{length, getD, take, drop, drop-of-length-le}
+use lib.Dec.{leb}
+use lib.ListN.{length, getD, set, take, drop, length-set, drop-of-length-le}
 use lib.Seq.{getD-take, length-take-le}
-use borrow.Author.Tests.{leb-true, le-leb, eq-eqb}
-use Rattle.base.proofs.Lists.{from-place}
+use borrow.Author.Tests.{leb-true, le-leb}
 use Rattle.base.specs.Refusals.{done, firstOf}
+use Rattle.base.proofs.Lists.{from-place}
+use Rattle.base.proofs.Tests.{first-next, first-found}
 use Rattle.state.specs.declared.Settings.{Settings}
 use Rattle.host.specs.declared.Host.{Host}
-use Rattle.host.specs.Steps.{advanceRefusal}
-use Rattle.places.specs.Places.{blankHost, clocksOk}
-use Rattle.places.proofs.Limits.{clocks-in, out-clocks}
+use Rattle.host.specs.declared.Stepped.{Stepped}
+use Rattle.host.specs.Steps.{advanceRefusal, advancedHost, advanceOf}
+use Rattle.host.proofs.Within.{lawful-advance}
+use Rattle.places.specs.Places.{blankHost, clocksOk, eachHost, advancesRefusal, advancedHosts}
+use Rattle.places.proofs.PlaceLimits.{clockAt, clocks-in, out-clocks}
+use Rattle.places.proofs.Each.{each-above, each-next}
 
 -- ---- clocks
-
-abbrev pub clockAt : List Host → ℕ → ℕ
-clockAt hs k = getD hs k blankHost .clock
 
 -- the clocks of the first i hosts are from low to high, and both are clocks of the first n
 pub record Span (hs : List Host) (n i low high : ℕ) : Type 0 where
@@ -86,25 +88,54 @@ span-clocks s hs low high some few p = go (leb (high - low) (s .spread)) refl (c
     go false e true f = sym e ∙ le-leb (high - low) (s .spread) (apart f)
     go false e false f = refl
 
--- ---- an advance of all
+-- ---- an advance of all: the hosts below g are advanced, and none of them refused
 
--- the hosts below n from i on are host i and the rest
-split-below : (hs : List Host) (n i : ℕ) → n ≤ length hs → i < n → drop i (take n hs) ≡ getD hs i blankHost ∷ drop (i + 1) (take n hs)
-split-below hs n i few b =
-    from-place (take n hs) i blankHost (rw (length-take-le n hs few) b) ∙ ap (λ (h : Host). h ∷ drop (i + 1) (take n hs)) (getD-take n hs i blankHost b)
+pub record Advancing (s : Settings) (d : ℕ) (start hosts : List Host) (g : ℕ) : Type 0 where
+  pub few : s .n ≤ length start
+  pub long : length hosts ≡ length start
+  pub within : g ≤ s .n
+  pub moved : hosts ≡ eachHost g (λ h. advancedHost h d) start
+  pub rest : advancesRefusal s start d ≡ firstOf (map (λ h. advanceRefusal s h d) (drop g (take (s .n) start)))
 
-module _ (s : Settings) (d : ℕ) (hs : List Host) (n i : ℕ) (few : n ≤ length hs) (b : i < n) where
-  abbrev refusals : ℕ → ℕ
-  refusals k = firstOf (map (λ h. advanceRefusal s h d) (drop k (take n hs)))
+pub advancing-first : (s : Settings) (d : ℕ) (start : List Host) → s .n ≤ length start → Advancing s d start start 0
+unfolding eachHost advancesRefusal
+advancing-first s d start few = record { few = few; long = refl; within = omega arith; moved = refl; rest = refl }
 
-  pub refusals-step : advanceRefusal s (getD hs i blankHost) d ≡ done → refusals i ≡ refusals (i + 1)
+module _ {s : Settings} {d : ℕ} {start hosts : List Host} {g : ℕ} (p : Advancing s d start hosts g) where
+  -- a turn: the step of host g, which has not moved before
+  module _ (b : g < s .n) (step : Stepped) (q : step ≡ advanceOf s (getD hosts g blankHost) d) where
+    abbrev host : Host
+    host = getD start g blankHost
+
+    step-is : step ≡ advanceOf s host d
+    step-is = q ∙ ap (λ (hs : List Host). advanceOf s (getD hs g blankHost) d) (p .moved) ∙ ap (λ (h : Host). advanceOf s h d) (each-above g (λ h. advancedHost h d) start g blankHost (le-refl g))
+
+    answer-is : step .answer ≡ advanceRefusal s host d
+    answer-is = ap (λ (x : Stepped). x .answer) step-is ∙ lawful-advance s host d .answer
+
+    rest-is : advancesRefusal s start d ≡ firstOf (step .answer ∷ map (λ h. advanceRefusal s h d) (drop (g + 1) (take (s .n) start)))
+    rest-is =
+        let there : g < length (take (s .n) start) = rw (length-take-le (s .n) start (p .few)) b in
+        p .rest ∙ ap (λ (hs : List Host). firstOf (map (λ h. advanceRefusal s h d) hs)) (from-place (take (s .n) start) g blankHost there)
+        ∙ rw (getD-take (s .n) start g blankHost b, answer-is)
+
+    pub advancing-refused : (step .answer ≡ done → ⊥) → advancesRefusal s start d ≡ step .answer
+    advancing-refused n = rest-is ∙ first-found (step .answer) _ n
+
+    pub advancing-next : step .answer ≡ done → Advancing s d start (set hosts g (step .host)) (g + 1)
+    advancing-next e =
+        let moves : step .host ≡ advancedHost host d = ap (λ (x : Stepped). x .host) (step-is ∙ lawful-advance s host d .done (sym answer-is ∙ e)) in
+        record {
+          few = p .few;
+          long = length-set hosts g (step .host) ∙ p .long;
+          within = omega arith;
+          moved = rw (p .moved, moves) (sym (each-next g (λ h. advancedHost h d) start blankHost (omega (arith, b, p .few))));
+          rest = rest-is ∙ first-next (step .answer) _ e;
+        }
+
+  pub advancing-last : s .n ≤ g → (advancesRefusal s start d ≡ done) × (hosts ≡ advancedHosts s start d)
   unfolding firstOf
-  refusals-step e = ap (λ (ks : List Host). firstOf (map (λ h. advanceRefusal s h d) ks)) (split-below hs n i few b) ∙ rw (eq-eqb (advanceRefusal s (getD hs i blankHost) d) done e)
-
-  pub refusals-found : eqb (advanceRefusal s (getD hs i blankHost) d) done ≡ false → refusals i ≡ advanceRefusal s (getD hs i blankHost) d
-  unfolding firstOf
-  refusals-found e = ap (λ (ks : List Host). firstOf (map (λ h. advanceRefusal s h d) ks)) (split-below hs n i few b) ∙ rw e
-
-pub refusals-end : (s : Settings) (d : ℕ) (hs : List Host) (n i : ℕ) → n ≤ length hs → n ≤ i → firstOf (map (λ h. advanceRefusal s h d) (drop i (take n hs))) ≡ done
-unfolding firstOf
-refusals-end s d hs n i few b = let h : length (take n hs) ≤ i = omega (arith, length-take-le n hs few) in rw (drop-of-length-le (take n hs) h)
+  advancing-last b =
+      let all : g ≡ s .n = omega (arith, b, p .within) in
+      let past : length (take (s .n) start) ≤ g = omega (arith, b, length-take-le (s .n) start (p .few)) in
+      (p .rest ∙ rw (drop-of-length-le (take (s .n) start) past), rw all at (p .moved))

@@ -1,83 +1,18 @@
 // The nine places for hosts: whether what they hold is within its limits, how far apart their clocks are, and what opening leaves
 // there.
 ghost use mathlib.Core.Path.{_≡_};
-ghost use mathlib.Core.Bool.{true};
 ghost use Prim.Native.Nat.{_<_, _≤_, _-_, max, min};
 ghost use lib.Dec.{leb};
-ghost use Rattle.message.specs.Message.{lastTick};
-ghost use Rattle.state.specs.Limits.{settingsOk};
-ghost use Rattle.places.specs.Places.{noPromise, noLease, noTick, noRound, noHolder, isBlankState, placeOk, stateAtOk, placesOk, statesOk, clocksOk, newHost, newHosts};
+ghost use Rattle.places.specs.Places.{placeOk, stateAtOk, placesOk, statesOk, clocksOk, newHost, newHosts};
+ghost use Rattle.places.specs.Parts.{Opens};
 use host::Host;
 use host::LAST_WAIT;
 use message::LAST_TICK;
-use rules::Accepted;
-use rules::LastTick;
-use rules::Named;
-use rules::Promised;
-use state::Round;
 use state::Settings;
 use state::State;
 
 // How many places for hosts a cell has: as many as a cell may have hosts.
 pub const PLACES: usize = 9;
-
-fn no_promise(p: Promised) -> bool
-    ensures { λ r. ⌜ r ≡ noPromise p ⌝ }
-{
-    match p {
-        Promised::Nothing => true,
-        Promised::To(_) => false,
-    }
-}
-
-fn no_lease(a: Accepted) -> bool
-    ensures { λ r. ⌜ r ≡ noLease a ⌝ }
-{
-    match a {
-        Accepted::Nothing => true,
-        Accepted::One(_) => false,
-    }
-}
-
-fn no_tick(l: LastTick) -> bool
-    ensures { λ r. ⌜ r ≡ noTick l ⌝ }
-{
-    match l {
-        LastTick::Never => true,
-        LastTick::At(_) => false,
-    }
-}
-
-fn no_round(r: Round) -> bool
-    ensures { λ v. ⌜ v ≡ noRound r ⌝ }
-{
-    match r {
-        Round::Idle => true,
-        Round::Asking(_) => false,
-        Round::Proposing(_) => false,
-    }
-}
-
-fn no_holder(m: Named) -> bool
-    ensures { λ r. ⌜ r ≡ noHolder m ⌝ }
-{
-    match m {
-        Named::Nobody => true,
-        Named::One(_) => false,
-    }
-}
-
-fn is_blank_state(t: State) -> bool
-    ensures { λ r. ⌜ r ≡ isBlankState t ⌝ }
-{
-    let promised = t.promised;
-    let accepted = t.accepted;
-    let last = t.last;
-    let round = t.round;
-    let named = t.named;
-    no_promise(promised)
-        & (no_lease(accepted) & (no_tick(last) & (no_round(round) & no_holder(named))))
-}
 
 // Whether the number, the clock and the wait at place i are within their limits.
 fn place_ok(s: Settings, i: usize, h: Host) -> bool
@@ -96,7 +31,7 @@ fn state_at_ok(s: Settings, i: usize, t: State) -> bool
     if i < s.n as usize {
         return state::state_ok(s, i as u8, t);
     }
-    is_blank_state(t)
+    state::is_blank_state(t)
 }
 
 // The limits of the places, in one walk.
@@ -179,16 +114,10 @@ pub fn clocks_ok(s: Settings, hosts: [Host; 9]) -> bool
 
 // A host as opening sets it: one that waits as after a restart, or the blank one at n or above.
 fn new_host(s: Settings, clock: u64, i: u8) -> Host
-    requires { ⌜ (settingsOk s ≡ true) × (clock ≤ lastTick) ⌝ }
+    requires { ⌜ Opens s clock ⌝ }
     ensures { λ r. ⌜ r ≡ newHost s clock i ⌝ }
 {
-    let state = State {
-        promised: Promised::Nothing,
-        accepted: Accepted::Nothing,
-        last: LastTick::Never,
-        round: Round::Idle,
-        named: Named::Nobody,
-    };
+    let state = state::blank_state();
     if i < s.n {
         let h = Host {
             number: i,
@@ -208,7 +137,7 @@ fn new_host(s: Settings, clock: u64, i: u8) -> Host
 
 // The hosts of a cell that opens.
 pub fn new_hosts(s: Settings, clock: u64) -> [Host; 9]
-    requires { ⌜ (settingsOk s ≡ true) × (clock ≤ lastTick) ⌝ }
+    requires { ⌜ Opens s clock ⌝ }
     ensures { λ r. ⌜ r ≡ newHosts s clock ⌝ }
 {
     let h0 = new_host(s, clock, 0);

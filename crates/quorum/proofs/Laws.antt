@@ -13,7 +13,7 @@ use lib.Pow.{shl-exact, shl-shr, shr-shr, pow-pos, pow-mono, pow-lt, pow-add}
 use borrow.Author.Tests.{eqb-true}
 use Rattle.base.specs.Lists.{All}
 use Rattle.base.proofs.Tests.{true-false}
-use Rattle.quorum.specs.Sets.{Member, bit, isIn, single, isOnly, membersFrom, members}
+use Rattle.quorum.specs.Sets.{Member, bit, isIn, singleOf, isOnly, membersFrom, members}
 
 -- a bit of a `u16` by a shift
 pub shifted : (i : ℕ) → i < 16 → (1 * 2 ^ i) % 2 ^ 16 ≡ 2 ^ i
@@ -24,10 +24,10 @@ bit-le s i = mod-lt (s / 2 ^ i) (lit< tt)
 
 -- ---- the set of one host
 
-pub single-same : (i : ℕ) → bit (single i) i ≡ 1
+pub single-same : (i : ℕ) → bit (singleOf i) i ≡ 1
 single-same i = ap (λ (x : ℕ). x % 2) (div-self (pow-pos i))
 
-pub single-other : (h i : ℕ) → (h ≡ i → ⊥) → bit (single h) i ≡ 0
+pub single-other : (h i : ℕ) → (h ≡ i → ⊥) → bit (singleOf h) i ≡ 0
 single-other h i e = go (decLt h i)
   where
     go : Dec (h < i) → bit (2 ^ h) i ≡ 0
@@ -43,18 +43,18 @@ single-other h i e = go (decLt h i)
 
 -- who is in a set that names no host but one is that one
 pub only-one : (set h i : ℕ) → isOnly set h ≡ true → isIn set i ≡ true → i ≡ h
-only-one set h i o m = go (eqb set 0) (eqb set (single h)) refl refl o (ℕ-discrete h i)
+only-one set h i o m = go (eqb set 0) (eqb set (singleOf h)) refl refl o (ℕ-discrete h i)
   where
     one : bit set i ≡ 1
     one = eqb-true (bit set i) 1 m
 
-    go : (a b : Bool) → eqb set 0 ≡ a → eqb set (single h) ≡ b → (a || b) ≡ true → Dec (h ≡ i) → i ≡ h
+    go : (a b : Bool) → eqb set 0 ≡ a → eqb set (singleOf h) ≡ b → (a || b) ≡ true → Dec (h ≡ i) → i ≡ h
     go a b p q o (yes e) = sym e
     go true b p q o (no e) =
         let z : bit set i ≡ 0 = ap (λ (s : ℕ). bit s i) (eqb-true set 0 p) ∙ ap (λ (x : ℕ). x % 2) (zero-div (2 ^ i)) in
         absurd (omega (arith, one))
     go false true p q o (no e) =
-        let z : bit set i ≡ 0 = ap (λ (s : ℕ). bit s i) (eqb-true set (single h) q) ∙ single-other h i e in
+        let z : bit set i ≡ 0 = ap (λ (s : ℕ). bit s i) (eqb-true set (singleOf h) q) ∙ single-other h i e in
         absurd (omega (arith, one))
     go false false p q o (no e) = true-false (sym o)
 
@@ -149,17 +149,17 @@ members-below set n m b l =
     rw e at (members-more set 0 n (m - n) (rw z (div-eq-of-lt b)))
 
 -- the set of one host has that host and no other
-members-lone : (t h k : ℕ) → h ≤ t → t < h + k → membersFrom (single t) h k ≡ t ∷ []
+members-lone : (t h k : ℕ) → h ≤ t → t < h + k → membersFrom (singleOf t) h k ≡ t ∷ []
 unfolding membersFrom
 members-lone t h zero a b = absurd (omega arith)
 members-lone t h (suc k) a b = go (ℕ-discrete t h) (λ d. members-lone t (suc h) k (omega arith) (omega arith))
   where
-    go : Dec (t ≡ h) → ((t ≡ h → ⊥) → membersFrom (single t) (suc h) k ≡ t ∷ []) → cond (isIn (single t) h) (h ∷ membersFrom (single t) (suc h) k) (membersFrom (single t) (suc h) k) ≡ t ∷ []
+    go : Dec (t ≡ h) → ((t ≡ h → ⊥) → membersFrom (singleOf t) (suc h) k ≡ t ∷ []) → cond (isIn (singleOf t) h) (h ∷ membersFrom (singleOf t) (suc h) k) (membersFrom (singleOf t) (suc h) k) ≡ t ∷ []
     go (yes e) f =
-        let one : bit (single t) h ≡ 1 = rw e (single-same h) in
-        let none = members-none (single t) (suc h) k (div-eq-of-lt (pow-lt {i = t} {j = suc h} (omega arith))) in
+        let one : bit (singleOf t) h ≡ 1 = rw e (single-same h) in
+        let none = members-none (singleOf t) (suc h) k (div-eq-of-lt (pow-lt {i = t} {j = suc h} (omega arith))) in
         rw (one, none, e)
     go (no d) f = rw (single-other t h d) (f d)
 
-pub members-single : (n t : ℕ) → t < n → members n (single t) ≡ t ∷ []
+pub members-single : (n t : ℕ) → t < n → members n (singleOf t) ≡ t ∷ []
 members-single n t b = members-lone t 0 n (omega arith) (omega arith)

@@ -1,18 +1,18 @@
 -- Laws of counting: adding a host to a set, a set's size as a sum over the hosts, and that two majorities share a host, with a weight
 -- for each host. Assumes nothing.
-use mathlib.Core.Path.{_≡_, refl, sym, ap, ap₂, _∙_, subst}
+use mathlib.Core.Path.{_≡_, refl, sym, ap, ap₂, _∙_}
 use mathlib.Core.Bool.{true}
-use Prim.Native.Nat.{ℕ, zero, suc, _+_, _-_, _*_, _/_, _%_, _^_, _<_, max, _≤_}
-use native.Mathlib.Nat.{add-mul, one-mul, add-comm, mod-lt, mod-eq-of-lt, not-suc-le-zero, add-zero}
+use Prim.Native.Nat.{ℕ, zero, suc, _+_, _*_, _/_, _%_, _^_, _<_, max}
+use native.Mathlib.Nat.{one-mul, add-comm, mod-lt, mod-eq-of-lt, not-suc-le-zero, add-zero}
 use native.Mathlib.Numerals.{one-add}
-use native.Mathlib.Decide.{decLt, ℕ-discrete}
+use native.Mathlib.Decide.{decLt}
 use native.Mathlib.Omega.{arith}
 use lib.Arith.{digits-mod}
 use lib.Bits.{bitOr, or-shr, or-step, or-lt}
-use lib.Count.{ones, ones-cat, ones-ones}
-use lib.Pow.{pow-pos, pow-lt, pow-add, mod-pow-add, ones-split, ones-lt, high}
+use lib.Count.{ones, ones-cat}
+use lib.Pow.{pow-pos, pow-lt, mod-pow-add}
 use borrow.Author.Tests.{leb-true}
-use Rattle.quorum.specs.Sets.{bit, single, withHost, everyone, others, size, majoritySize, majority}
+use Rattle.quorum.specs.Sets.{bit, singleOf, withHost, everyoneOf, othersOf, sizeOf, majoritySize, isMajority}
 use Rattle.quorum.proofs.Laws.{bit-le, single-same, single-other}
 
 -- ---- sums by index
@@ -36,10 +36,6 @@ sum-one : (n : ℕ) → sum (λ i. 1) n ≡ n
 sum-one zero = refl
 sum-one (suc n) = omega (arith, sum-one n)
 
-sum-parts : (f g k : ℕ → ℕ) (n : ℕ) → ((i : ℕ) → f i ≡ g i + k i) → sum f n ≡ sum g n + sum k n
-sum-parts f g k zero e = refl
-sum-parts f g k (suc n) e = omega (arith, e n, sum-parts f g k n e)
-
 -- ---- a set's size is the sum of its bits
 
 ones-bit : (b : ℕ) → b < 2 → ones b ≡ b
@@ -58,7 +54,7 @@ ones-sum s (suc k) =
     ∙ ap₂ _+_ (ones-bit (bit s k) (bit-le s k)) (ones-sum s k)
     ∙ add-comm (bit s k) (sum (bit s) k)
 
-pub size-sum : (s n : ℕ) → s < 2 ^ n → size s ≡ sum (bit s) n
+pub size-sum : (s n : ℕ) → s < 2 ^ n → sizeOf s ≡ sum (bit s) n
 size-sum s n h = ap ones (sym (mod-eq-of-lt h)) ∙ ones-sum s n
 
 -- ---- two majorities meet
@@ -90,15 +86,15 @@ majority-half : (n : ℕ) → n < majoritySize n + majoritySize n
 majority-half n = omega arith
 
 -- two majorities of n hosts share a host: the weights are 1
-pub majorities-meet : (n s t : ℕ) → s < 2 ^ n → t < 2 ^ n → majority n s ≡ true → majority n t ≡ true → (i : ℕ) × (i < n) × (bit s i ≡ 1) × (bit t i ≡ 1)
-unfolding majority
+pub majorities-meet : (n s t : ℕ) → s < 2 ^ n → t < 2 ^ n → isMajority n s ≡ true → isMajority n t ≡ true → (i : ℕ) × (i < n) × (bit s i ≡ 1) × (bit t i ≡ 1)
+unfolding isMajority
 majorities-meet n s t hs ht ms mt =
     weighed-meet (λ i. 1) n s t
     (omega (
       arith,
       majority-half n,
-      leb-true (majoritySize n) (size s) ms,
-      leb-true (majoritySize n) (size t) mt,
+      leb-true (majoritySize n) (sizeOf s) ms,
+      leb-true (majoritySize n) (sizeOf t) mt,
       size-sum s n hs,
       size-sum t n ht,
       sum-one n,
@@ -117,60 +113,22 @@ or-bit a b i =
     ∙ digits-mod (bitOr (a / 2 ^ i / 2) (b / 2 ^ i / 2)) (max-lt (bit a i) (bit b i) (bit-le a i) (bit-le b i))
 
 pub with-same : (s h : ℕ) → bit (withHost s h) h ≡ 1
-with-same s h = or-bit s (single h) h ∙ omega (arith, single-same h, bit-le s h)
+with-same s h = or-bit s (singleOf h) h ∙ omega (arith, single-same h, bit-le s h)
 
 pub with-other : (s h i : ℕ) → (h ≡ i → ⊥) → bit (withHost s h) i ≡ bit s i
-with-other s h i e = or-bit s (single h) i ∙ omega (arith, single-other h i e)
+with-other s h i e = or-bit s (singleOf h) i ∙ omega (arith, single-other h i e)
 
 pub with-below : (n s h : ℕ) → s < 2 ^ n → h < n → withHost s h < 2 ^ n
-with-below n s h p q = or-lt n s (single h) p (pow-lt q)
+with-below n s h p q = or-lt n s (singleOf h) p (pow-lt q)
 
-pub size-single : (h : ℕ) → size (single h) ≡ 1
+pub size-single : (h : ℕ) → sizeOf (singleOf h) ≡ 1
 unfolding ones
 size-single h = ap ones (sym (add-zero (1 * 2 ^ h) ∙ one-mul (2 ^ h))) ∙ ones-cat h 1 0 (pow-pos h)
 
--- a host that was not in the set raises its size by one
-pub size-with : (n s h : ℕ) → s < 2 ^ n → h < n → bit s h ≡ 0 → size (withHost s h) ≡ size s + 1
-size-with n s h p q e =
-    let parts : (i : ℕ) → bit (withHost s h) i ≡ bit s i + bit (single h) i = λ i. at i (ℕ-discrete h i) in
-    omega (
-      arith,
-      size-sum (withHost s h) n (with-below n s h p q),
-      size-sum s n p,
-      size-sum (single h) n (pow-lt q),
-      size-single h,
-      sum-parts (bit (withHost s h)) (bit s) (bit (single h)) n parts,
-    )
-  where
-    at : (i : ℕ) → Dec (h ≡ i) → bit (withHost s h) i ≡ bit s i + bit (single h) i
-    at i (yes r) = subst (λ (j : ℕ). bit (withHost s h) j ≡ bit s j + bit (single h) j) r (omega (arith, with-same s h, single-same h))
-    at i (no r) = omega (arith, with-other s h i r, single-other h i r)
-
 -- ---- all hosts, and all but one
 
-pub everyone-below : (n : ℕ) → everyone n < 2 ^ n
+pub everyone-below : (n : ℕ) → everyoneOf n < 2 ^ n
 everyone-below n = omega (arith, pow-pos n)
 
-pub others-below : (n h : ℕ) → others n h < 2 ^ n
+pub others-below : (n h : ℕ) → othersOf n h < 2 ^ n
 others-below n h = omega (arith, pow-pos n)
-
--- all n hosts are n
-pub size-everyone : (n : ℕ) → size (everyone n) ≡ n
-size-everyone n = ones-ones n
-
--- a host is not among the others
-pub others-without : (n h : ℕ) → h < n → bit (others n h) h ≡ 0
-others-without n h l =
-    let j : ℕ = n - h - 1 in
-    let e : n ≡ (j + 1) + h = omega arith in
-    let s : everyone n ≡ (2 ^ (j + 1) - 1) * 2 ^ h + (2 ^ h - 1) = ap (λ (k : ℕ). 2 ^ k - 1) e ∙ ones-split (j + 1) h in
-    let d : 2 ^ (j + 1) ≡ 2 * 2 ^ j = pow-add 2 j 1 ∙ omega arith in
-    let p = pow-pos j in
-    let m : (2 ^ (j + 1) - 1) * 2 ^ h ≡ (2 ^ (j + 1) - 2) * 2 ^ h + 2 ^ h = times (2 ^ (j + 1)) (2 ^ h) (omega arith) in
-    let o : others n h ≡ (2 ^ (j + 1) - 2) * 2 ^ h + (2 ^ h - 1) = omega (arith, s, m) in
-    ap (λ (x : ℕ). x / 2 ^ h % 2) o ∙ ap (λ (x : ℕ). x % 2) (high (2 ^ (j + 1) - 2) h (ones-lt h)) ∙ omega (arith, d, p)
-  where
-    times : (a b : ℕ) → 2 ≤ a → (a - 1) * b ≡ (a - 2) * b + b
-    times a b g =
-        let f : a - 1 ≡ (a - 2) + 1 = omega arith in
-        ap (λ (x : ℕ). x * b) f ∙ add-mul (a - 2) 1 b ∙ ap (λ (x : ℕ). (a - 2) * b + x) (one-mul b)

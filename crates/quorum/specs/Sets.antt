@@ -22,20 +22,20 @@ abbrev pub isIn : ℕ → ℕ → Bool
 isIn set h = eqb (bit set h) 1
 
 -- the set of one host
-abbrev pub single : ℕ → ℕ
-single h = 2 ^ h
+abbrev pub singleOf : ℕ → ℕ
+singleOf h = 2 ^ h
 
 -- the set with one host more
 abbrev pub withHost : ℕ → ℕ → ℕ
-withHost set h = bitOr set (single h)
+withHost set h = bitOr set (singleOf h)
 
 -- all n hosts
-abbrev pub everyone : ℕ → ℕ
-everyone n = 2 ^ n - 1
+abbrev pub everyoneOf : ℕ → ℕ
+everyoneOf n = 2 ^ n - 1
 
 -- all n hosts but one of them
-abbrev pub others : ℕ → ℕ → ℕ
-others n h = everyone n - single h
+abbrev pub othersOf : ℕ → ℕ → ℕ
+othersOf n h = everyoneOf n - singleOf h
 
 -- no host of n or more is in the set
 abbrev pub isBelow : ℕ → ℕ → Bool
@@ -43,19 +43,19 @@ isBelow set n = ltb set (2 ^ n)
 
 -- no host but h is in the set
 abbrev pub isOnly : ℕ → ℕ → Bool
-isOnly set h = eqb set 0 || eqb set (single h)
+isOnly set h = eqb set 0 || eqb set (singleOf h)
 
 -- the number of ones
-abbrev pub size : ℕ → ℕ
-size set = ones set
+abbrev pub sizeOf : ℕ → ℕ
+sizeOf set = ones set
 
 -- 'a majority is floor(n / 2) + 1 hosts'
 abbrev pub majoritySize : ℕ → ℕ
 majoritySize n = n / 2 + 1
 
 -- in the field's word a quorum
-unfoldable pub majority : ℕ → ℕ → Bool
-majority n set = leb (majoritySize n) (size set)
+unfoldable pub isMajority : ℕ → ℕ → Bool
+isMajority n set = leb (majoritySize n) (sizeOf set)
 
 -- those of the k hosts from h on that are in the set, rising
 unfoldable pub membersFrom : ℕ → ℕ → ℕ → List ℕ

@@ -1,7 +1,7 @@
 // How many hosts a cell may have, and sets of them: a u16 with one bit a host.
 ghost use mathlib.Core.Path.{_≡_};
 ghost use Prim.Native.Nat.{_<_};
-ghost use Rattle.quorum.specs.Sets.{cellFits, isIn, single, withHost, everyone, others, isBelow, isOnly, size, majority};
+ghost use Rattle.quorum.specs.Sets.{cellFits, isIn, singleOf, withHost, everyoneOf, othersOf, isBelow, isOnly, sizeOf, isMajority};
 
 // The most hosts that a cell may have.
 pub const MOST_HOSTS: u8 = 9;
@@ -14,7 +14,7 @@ pub fn cell_fits(n: u8) -> bool
 }
 
 // Whether a host is in a set.
-pub fn has(set: u16, host: u8) -> bool
+pub fn is_in(set: u16, host: u8) -> bool
     requires { ⌜ host < 16 ⌝ }
     ensures { λ r. ⌜ r ≡ isIn set host ⌝ }
 {
@@ -24,7 +24,7 @@ pub fn has(set: u16, host: u8) -> bool
 // The set of one host.
 pub fn single_of(host: u8) -> u16
     requires { ⌜ host < 16 ⌝ }
-    ensures { λ r. ⌜ r ≡ single host ⌝ }
+    ensures { λ r. ⌜ r ≡ singleOf host ⌝ }
 {
     1u16 << host
 }
@@ -40,7 +40,7 @@ pub fn with_host(set: u16, host: u8) -> u16
 // The set of all n hosts.
 pub fn everyone_of(n: u8) -> u16
     requires { ⌜ n < 16 ⌝ }
-    ensures { λ r. ⌜ r ≡ everyone n ⌝ }
+    ensures { λ r. ⌜ r ≡ everyoneOf n ⌝ }
 {
     single_of(n) - 1
 }
@@ -48,7 +48,7 @@ pub fn everyone_of(n: u8) -> u16
 // The set of all n hosts but one of them.
 pub fn others_of(n: u8, host: u8) -> u16
     requires { ⌜ (n < 16) × (host < n) ⌝ }
-    ensures { λ r. ⌜ r ≡ others n host ⌝ }
+    ensures { λ r. ⌜ r ≡ othersOf n host ⌝ }
 {
     everyone_of(n) - single_of(host)
 }
@@ -77,15 +77,15 @@ pub fn is_only(set: u16, host: u8) -> bool
 }
 
 // How many hosts are in a set.
-pub fn count(set: u16) -> u32
-    ensures { λ r. ⌜ r ≡ size set ⌝ }
+pub fn size_of(set: u16) -> u32
+    ensures { λ r. ⌜ r ≡ sizeOf set ⌝ }
 {
     u16::count_ones(set)
 }
 
 // Whether a set is a majority of n hosts.
 pub fn is_majority(n: u8, set: u16) -> bool
-    ensures { λ r. ⌜ r ≡ majority n set ⌝ }
+    ensures { λ r. ⌜ r ≡ isMajority n set ⌝ }
 {
-    n as u32 / 2 + 1 <= count(set)
+    n as u32 / 2 + 1 <= size_of(set)
 }

@@ -2,17 +2,17 @@
 use Prim.Native.Nat.{ℕ, _+_}
 use mathlib.Core.Bool.{Bool, true, false, cond, not}
 use lib.Dec.{ltb, leb, eqb}
-use Rattle.quorum.specs.Sets.{isIn, majority}
+use Rattle.quorum.specs.Sets.{isIn, isMajority}
 use Rattle.message.specs.declared.Ballot.{Ballot}
 use Rattle.message.specs.declared.KeepersEnd.{KeepersEnd}
 use Rattle.message.specs.declared.Lease.{Lease}
-use Rattle.message.specs.Message.{isAbove, keepersOf}
+use Rattle.message.specs.Message.{isAbove, toKeepers}
 use Rattle.rules.specs.declared.Promised.{Promised}
 use Rattle.rules.specs.declared.Accepted.{Accepted}
-use Rattle.rules.specs.declared.LastTick.{LastTick}
+use Rattle.rules.specs.declared.LastBallot.{LastBallot}
 use Rattle.rules.specs.declared.Holder.{Holder}
 use Rattle.rules.specs.declared.Named.{Named}
-use Rattle.rules.specs.declared.Claim.{Claim}
+use Rattle.rules.specs.declared.Value.{Value}
 use Rattle.rules.specs.declared.Vote.{Vote}
 
 -- ---- waiting, time and restart
@@ -48,9 +48,9 @@ abbrev pub ballotAt : ℕ → ℕ → Ballot
 ballotAt clock number = record { tick = clock; host = number }
 
 -- refusal 10 where it does not hold: the clock is above the last ballot's tick
-unfoldable pub isFresh : LastTick → ℕ → Bool
-isFresh LastTick.Never clock = true
-isFresh (LastTick.At t) clock = ltb t clock
+unfoldable pub isFresh : LastBallot → ℕ → Bool
+isFresh LastBallot.Never clock = true
+isFresh (LastBallot.At t) clock = ltb t clock
 
 -- ---- prepare request
 
@@ -62,8 +62,8 @@ mayPromise (Promised.To p) b = isAbove b p
 -- ---- prepare response
 
 -- 'from a host not yet counted'
-abbrev pub counts : ℕ → ℕ → Bool
-counts replied sender = not (isIn replied sender)
+abbrev pub countsReply : ℕ → ℕ → Bool
+countsReply replied sender = not (isIn replied sender)
 
 -- 'a lease whose end is at or below the receiver's clock' is discarded (001, rule 5)
 unfoldable pub hasEnded : ℕ → Accepted → Bool
@@ -80,15 +80,15 @@ higherOf (Accepted.One a) Accepted.Nothing = Accepted.One a
 higherOf (Accepted.One a) (Accepted.One b) = cond (replacesKept a b) (Accepted.One b) (Accepted.One a)
 
 -- 'when the count reaches a majority': the set is one, and was none before
-unfoldable pub acts : ℕ → ℕ → ℕ → Bool
-acts n before after = cond (majority n before) false (majority n after)
+unfoldable pub actsOn : ℕ → ℕ → ℕ → Bool
+actsOn n before after = cond (isMajority n before) false (isMajority n after)
 
 -- 'the host's own, ending at ballot tick + duration + S': its holder's end is ballot tick + duration
 abbrev pub ownEnd : ℕ → ℕ → ℕ → KeepersEnd
-ownEnd tick duration spread = keepersOf (record { 0 = tick + duration }) spread
+ownEnd tick duration spread = toKeepers (record { 0 = tick + duration }) spread
 
-abbrev pub claim : ℕ → KeepersEnd → Claim
-claim o e = record { owner = o; end = e }
+abbrev pub value : ℕ → KeepersEnd → Value
+value o e = record { owner = o; end = e }
 
 -- of one's own end and the kept lease's, the first is as late or later
 abbrev pub ownIsLater : KeepersEnd → Lease → Bool
@@ -96,13 +96,13 @@ ownIsLater own l = leb (l .end .0) (own .0)
 
 -- 'if no lease was kept, or its end has come, the lease is the host's own'; 'if the kept lease is its own, the later of that end and
 -- the kept one'; 'else the kept lease unchanged'
-unfoldable pub claimOf : ℕ → ℕ → KeepersEnd → Accepted → Claim
-claimOf number clock own Accepted.Nothing = claim number own
-claimOf number clock own (Accepted.One l) =
-    cond (leb (l .end .0) clock) (claim number own)
+unfoldable pub valueToPropose : ℕ → ℕ → KeepersEnd → Accepted → Value
+valueToPropose number clock own Accepted.Nothing = value number own
+valueToPropose number clock own (Accepted.One l) =
+    cond (leb (l .end .0) clock) (value number own)
     (cond (eqb (l .owner) number)
-    (cond (ownIsLater own l) (claim number own) (claim (l .owner) (l .end)))
-    (claim (l .owner) (l .end)))
+    (cond (ownIsLater own l) (value number own) (value (l .owner) (l .end)))
+    (value (l .owner) (l .end)))
 
 -- ---- propose request
 

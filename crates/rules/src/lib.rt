@@ -1,9 +1,9 @@
-// The leaf rules of a host: what is promised, accepted, kept, claimed, named and dropped, and when a round acts. Each is one
+// The leaf rules of a host: what is promised, accepted, kept, proposed, named and dropped, and when a round acts. Each is one
 // sentence of document 01, as a free function on small values; the host's methods only put them together.
 ghost use mathlib.Core.Path.{_≡_};
 ghost use Prim.Native.Nat.{_<_, _≤_, _^_};
 ghost use Rattle.message.specs.Message.{lastTick};
-ghost use Rattle.rules.specs.Rules.{mayPromise, isForbidden, mayAccept, acceptedAt, namedAt, hasEnded, waitEnd, ballotAt, isFresh, counts, higherOf, ownEnd, claimOf, acts, isNamable, namedBy, afterAccept, isWaiting};
+ghost use Rattle.rules.specs.Rules.{mayPromise, isForbidden, mayAccept, acceptedAt, namedAt, hasEnded, waitEnd, ballotAt, isFresh, countsReply, higherOf, ownEnd, valueToPropose, actsOn, isNamable, namedBy, afterAccept, isWaiting};
 use message::Ballot;
 use message::HoldersEnd;
 use message::KeepersEnd;
@@ -21,8 +21,8 @@ pub enum Accepted {
     One(Lease),
 }
 
-// The tick of the last ballot, or none.
-pub enum LastTick {
+// The tick of a host's last ballot, or none.
+pub enum LastBallot {
     Never,
     At(u64),
 }
@@ -40,8 +40,8 @@ pub enum Named {
     One(Holder),
 }
 
-// The owner and the end of a lease to propose.
-pub struct Claim {
+// The owner and the end of a lease to propose: in the field's word the value of a proposal.
+pub struct Value {
     pub owner: u8,
     pub end: KeepersEnd,
 }
@@ -110,12 +110,12 @@ pub fn ballot_at(clock: u64, number: u8) -> Ballot
 }
 
 // Whether a clock is above the last ballot's tick.
-pub fn is_fresh(last: LastTick, clock: u64) -> bool
+pub fn is_fresh(last: LastBallot, clock: u64) -> bool
     ensures { λ r. ⌜ r ≡ isFresh last clock ⌝ }
 {
     match last {
-        LastTick::At(t) => t < clock,
-        LastTick::Never => true,
+        LastBallot::At(t) => t < clock,
+        LastBallot::Never => true,
     }
 }
 
@@ -124,7 +124,7 @@ pub fn may_promise(p: Promised, ballot: Ballot) -> bool
     ensures { λ r. ⌜ r ≡ mayPromise p ballot ⌝ }
 {
     match p {
-        Promised::To(b) => ballot.above(b),
+        Promised::To(b) => ballot.is_above(b),
         Promised::Nothing => true,
     }
 }
@@ -134,7 +134,7 @@ pub fn is_forbidden(p: Promised, ballot: Ballot) -> bool
     ensures { λ r. ⌜ r ≡ isForbidden p ballot ⌝ }
 {
     match p {
-        Promised::To(b) => b.above(ballot),
+        Promised::To(b) => b.is_above(ballot),
         Promised::Nothing => false,
     }
 }
@@ -173,9 +173,9 @@ pub fn has_ended(clock: u64, a: Accepted) -> bool
 // Whether a reply from this host counts: it was not counted yet.
 pub fn counts_reply(replied: u16, sender: u8) -> bool
     requires { ⌜ sender < 16 ⌝ }
-    ensures { λ r. ⌜ r ≡ counts replied sender ⌝ }
+    ensures { λ r. ⌜ r ≡ countsReply replied sender ⌝ }
 {
-    !quorum::has(replied, sender)
+    !quorum::is_in(replied, sender)
 }
 
 // The reply with the highest accepted ballot, the earlier one at a tie.
@@ -187,7 +187,7 @@ pub fn higher_of(kept: Accepted, reply: Accepted) -> Accepted
         Accepted::One(a) => match reply {
             Accepted::Nothing => kept,
             Accepted::One(b) => {
-                if b.ballot.above(a.ballot) {
+                if b.ballot.is_above(a.ballot) {
                     return reply;
                 }
                 kept
@@ -198,7 +198,7 @@ pub fn higher_of(kept: Accepted, reply: Accepted) -> Accepted
 
 // Whether a round acts: the reply made the set a majority, and it was none before.
 pub fn acts_on(n: u8, before: u16, after: u16) -> bool
-    ensures { λ r. ⌜ r ≡ acts n before after ⌝ }
+    ensures { λ r. ⌜ r ≡ actsOn n before after ⌝ }
 {
     if quorum::is_majority(n, before) {
         return false;
@@ -215,10 +215,10 @@ pub fn own_end(tick: u64, duration: u32, spread: u32) -> KeepersEnd
 }
 
 // The lease to propose once a majority replied: own is the end that one's own lease would have.
-pub fn claim_of(number: u8, clock: u64, own: KeepersEnd, kept: Accepted) -> Claim
-    ensures { λ r. ⌜ r ≡ claimOf number clock own kept ⌝ }
+pub fn value_to_propose(number: u8, clock: u64, own: KeepersEnd, kept: Accepted) -> Value
+    ensures { λ r. ⌜ r ≡ valueToPropose number clock own kept ⌝ }
 {
-    let mine = Claim {
+    let mine = Value {
         owner: number,
         end: own,
     };
@@ -234,7 +234,7 @@ pub fn claim_of(number: u8, clock: u64, own: KeepersEnd, kept: Accepted) -> Clai
                     return mine;
                 }
             }
-            Claim {
+            Value {
                 owner: l.owner,
                 end,
             }
@@ -257,7 +257,7 @@ pub fn named_by(m: Named, holder: Holder) -> Named
     match m {
         Named::Nobody => Named::One(holder),
         Named::One(h) => {
-            if holder.ballot.above(h.ballot) {
+            if holder.ballot.is_above(h.ballot) {
                 return Named::One(holder);
             }
             m

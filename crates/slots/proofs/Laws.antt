@@ -1,23 +1,25 @@
--- Laws of the messages under way: what holds of each of them stays so when a slot is freed or a message placed, and the slots stay
--- as many. Assumes nothing.
-use mathlib.Core.Path.{_≡_, refl, _∙_}
+-- Laws of the messages under way: what holds of each of them stays so when a slot is freed or a message placed, the slots stay as
+-- many, and a filled one is left alone. Assumes nothing.
+use mathlib.Core.Path.{_≡_, refl, ap, _∙_}
 use mathlib.Core.Bool.{Bool, true, false, cond}
 use mathlib.Core.List.{List, [], _∷_}
 use Prim.Native.Nat.{ℕ, zero, suc, _+_, _≤_, _<_}
 use native.Mathlib.Omega.{arith}
 use lib.ListN.{length, getD, set, length-set}
+use lib.Seq.{getD-set-other}
 use borrow.Author.Tests.{eqb-true, eq-eqb}
 use Rattle.base.specs.Refusals.{done}
 use Rattle.base.specs.Lists.{All, every}
 use Rattle.base.proofs.Lists.{all-map, all-set, all-at, all-same}
-use Rattle.base.proofs.Tests.{both}
+use Rattle.base.proofs.Tests.{true-false, both, by-test}
+use Rattle.message.specs.declared.Sizes.{Sizes}
 use Rattle.message.specs.declared.Message.{Message}
-use Rattle.message.specs.Message.{numbersOf, messageTo}
+use Rattle.message.specs.Message.{numbersOf, addressedTo}
 use Rattle.message.specs.Faults.{faultOf}
 use Rattle.slots.specs.declared.Content.{Content}
 use Rattle.slots.specs.declared.Slot.{Slot}
 use Rattle.slots.specs.Slots.{slotCount, emptySlot, slotWith, noMessages, isEmpty, contentOk, slotOk, slotsOk, empties, lowest, placed, placedEach, freed}
-use Rattle.slots.specs.Parts.{slotAfter, gained}
+use Rattle.slots.specs.Parts.{slotAfter, gainedBy}
 
 -- ---- as many slots
 
@@ -28,7 +30,7 @@ length-placed ss m = length-set ss (lowest ss) (slotWith m)
 pub length-placed-each : (ss : List Slot) (m : Message) (hs : List ℕ) → length (placedEach ss m hs) ≡ length ss
 unfolding placedEach
 length-placed-each ss m [] = refl
-length-placed-each ss m (h ∷ hs) = length-placed-each (placed ss (messageTo m h)) m hs ∙ length-placed ss (messageTo m h)
+length-placed-each ss m (h ∷ hs) = length-placed-each (placed ss (addressedTo m h)) m hs ∙ length-placed ss (addressedTo m h)
 
 pub length-freed : (ss : List Slot) (i : ℕ) → length (freed ss i) ≡ length ss
 length-freed ss i = length-set ss i emptySlot
@@ -46,22 +48,48 @@ freed-counts (s ∷ ss) (suc i) h = go (isEmpty (s .content)) (freed-counts ss i
 
 -- what an event gains of its slot is counted with the empty slots before it
 pub gained-counts : (frees : Bool) (ss : List Slot) (i : ℕ) → i < length ss
-    → empties (set ss i (slotAfter frees (getD ss i emptySlot))) ≡ gained frees (getD ss i emptySlot .content) + empties ss
-unfolding slotAfter empties isEmpty gained
+    → empties (set ss i (slotAfter frees (getD ss i emptySlot))) ≡ gainedBy frees (getD ss i emptySlot .content) + empties ss
+unfolding slotAfter empties isEmpty gainedBy
 gained-counts frees [] i h = absurd (omega arith)
 gained-counts frees (s ∷ ss) zero h = go frees (s .content) s refl
   where
     go : (b : Bool) (t : Content) (x : Slot) → x .content ≡ t
-        → cond (isEmpty (cond b emptySlot x .content)) (suc (empties ss)) (empties ss) ≡ gained b t + cond (isEmpty t) (suc (empties ss)) (empties ss)
+        → cond (isEmpty (cond b emptySlot x .content)) (suc (empties ss)) (empties ss) ≡ gainedBy b t + cond (isEmpty t) (suc (empties ss)) (empties ss)
     go true Content.Empty x e = omega arith
     go true (Content.One m) x e = omega arith
     go false Content.Empty x e = rw e (omega arith)
     go false (Content.One m) x e = rw e (omega arith)
-gained-counts frees (s ∷ ss) (suc i) h = go (isEmpty (s .content)) _ (gained frees (getD ss i emptySlot .content)) _ (gained-counts frees ss i (omega arith))
+gained-counts frees (s ∷ ss) (suc i) h = go (isEmpty (s .content)) _ (gainedBy frees (getD ss i emptySlot .content)) _ (gained-counts frees ss i (omega arith))
   where
     go : (b : Bool) (x y z : ℕ) → x ≡ y + z → cond b (suc x) x ≡ y + cond b (suc z) z
     go true x y z e = omega (arith, e)
     go false x y z e = e
+
+-- ---- a slot that holds a message is left alone by placing, to any receivers, and by freeing another
+
+abbrev pub Filled : List Slot → ℕ → Type 0
+Filled ss j = isEmpty (getD ss j emptySlot .content) ≡ false
+
+-- the lowest empty slot holds no message
+not-lowest : (ss : List Slot) (j : ℕ) → Filled ss j → j ≡ lowest ss → ⊥
+unfolding lowest isEmpty
+not-lowest [] j f q = true-false f
+not-lowest (s ∷ ss) zero f q = let n : 0 ≡ suc (lowest ss) = rw f at q in absurd (omega arith)
+not-lowest (s ∷ ss) (suc j) f q = by-test (λ (k : ℕ). suc j ≡ k → ⊥) (isEmpty (s .content)) 0 (suc (lowest ss)) (λ _ e. omega (arith, e)) (λ _ e. not-lowest ss j f (omega (arith, e))) q
+
+placed-leaves : (ss : List Slot) (m : Message) (j : ℕ) → Filled ss j → getD (placed ss m) j emptySlot ≡ getD ss j emptySlot
+unfolding placed
+placed-leaves ss m j f = getD-set-other ss (lowest ss) j (slotWith m) emptySlot (not-lowest ss j f)
+
+pub placed-each-leaves : (ss : List Slot) (m : Message) (hs : List ℕ) (j : ℕ) → Filled ss j → getD (placedEach ss m hs) j emptySlot ≡ getD ss j emptySlot
+unfolding placedEach
+placed-each-leaves ss m [] j f = refl
+placed-each-leaves ss m (h ∷ hs) j f =
+    let e = placed-leaves ss (addressedTo m h) j f in
+    placed-each-leaves (placed ss (addressedTo m h)) m hs j (ap (λ (s : Slot). isEmpty (s .content)) e ∙ f) ∙ e
+
+pub freed-leaves : (ss : List Slot) (i j : ℕ) → (j ≡ i → ⊥) → getD (freed ss i) j emptySlot ≡ getD ss j emptySlot
+freed-leaves ss i j d = getD-set-other ss i j emptySlot emptySlot d
 
 -- ---- what holds of each message under way
 
@@ -96,10 +124,10 @@ pub holds-placed : (P : Message → Type 0) (ss : List Slot) (m : Message) → H
 unfolding Holds Carries placed
 holds-placed P ss m p q = all-set (CarriedBy P) ss (lowest ss) (slotWith m) p q
 
-pub holds-placed-each : (P : Message → Type 0) (ss : List Slot) (m : Message) (hs : List ℕ) → Holds P ss → All (λ h. P (messageTo m h)) hs → Holds P (placedEach ss m hs)
+pub holds-placed-each : (P : Message → Type 0) (ss : List Slot) (m : Message) (hs : List ℕ) → Holds P ss → All (λ h. P (addressedTo m h)) hs → Holds P (placedEach ss m hs)
 unfolding placedEach All
 holds-placed-each P ss m [] p q = p
-holds-placed-each P ss m (h ∷ hs) p q = holds-placed-each P (placed ss (messageTo m h)) m hs (holds-placed P ss (messageTo m h) p (q .0)) (q .1)
+holds-placed-each P ss m (h ∷ hs) p q = holds-placed-each P (placed ss (addressedTo m h)) m hs (holds-placed P ss (addressedTo m h) p (q .0)) (q .1)
 
 carried : (P : Message → Type 0) (c : Content) (m : Message) → Carries P c → c ≡ Content.One m → P m
 unfolding Carries
@@ -112,33 +140,33 @@ holds-at P ss i m p e = carried P (getD ss i emptySlot .content) m (all-at (Carr
 
 -- ---- slots within their limits: writing refuses no message under way
 
-abbrev pub Sendable : ℕ → Message → Type 0
-Sendable n m = faultOf n (numbersOf m) ≡ done
+abbrev pub Sendable : Sizes → Message → Type 0
+Sendable z m = faultOf z (numbersOf m) ≡ done
 
-content-in : (n : ℕ) (c : Content) → contentOk n c ≡ true → Carries (Sendable n) c
+content-in : (z : Sizes) (c : Content) → contentOk z c ≡ true → Carries (Sendable z) c
 unfolding contentOk Carries
-content-in n Content.Empty e = tt
-content-in n (Content.One m) e = eqb-true (faultOf n (numbersOf m)) done e
+content-in z Content.Empty e = tt
+content-in z (Content.One m) e = eqb-true (faultOf z (numbersOf m)) done e
 
-out-content : (n : ℕ) (c : Content) → Carries (Sendable n) c → contentOk n c ≡ true
+out-content : (z : Sizes) (c : Content) → Carries (Sendable z) c → contentOk z c ≡ true
 unfolding contentOk Carries
-out-content n Content.Empty p = refl
-out-content n (Content.One m) p = eq-eqb (faultOf n (numbersOf m)) done p
+out-content z Content.Empty p = refl
+out-content z (Content.One m) p = eq-eqb (faultOf z (numbersOf m)) done p
 
-slots-from : (n i : ℕ) (ss : List Slot) → every (slotOk n) i ss ≡ true → Holds (Sendable n) ss
+slots-from : (z : Sizes) (i : ℕ) (ss : List Slot) → every (slotOk z) i ss ≡ true → Holds (Sendable z) ss
 unfolding every Holds All
-slots-from n i [] e = tt
-slots-from n i (s ∷ ss) e = let p = both (contentOk n (s .content)) (every (slotOk n) (suc i) ss) e in (content-in n (s .content) (p .0), slots-from n (suc i) ss (p .1))
+slots-from z i [] e = tt
+slots-from z i (s ∷ ss) e = let p = both (contentOk z (s .content)) (every (slotOk z) (suc i) ss) e in (content-in z (s .content) (p .0), slots-from z (suc i) ss (p .1))
 
-pub slots-in : (n : ℕ) (ss : List Slot) → slotsOk n ss ≡ true → Holds (Sendable n) ss
+pub slots-in : (z : Sizes) (ss : List Slot) → slotsOk z ss ≡ true → Holds (Sendable z) ss
 unfolding slotsOk
-slots-in n ss e = slots-from n 0 ss e
+slots-in z ss e = slots-from z 0 ss e
 
-out-from : (n i : ℕ) (ss : List Slot) → Holds (Sendable n) ss → every (slotOk n) i ss ≡ true
+out-from : (z : Sizes) (i : ℕ) (ss : List Slot) → Holds (Sendable z) ss → every (slotOk z) i ss ≡ true
 unfolding every Holds All
-out-from n i [] p = refl
-out-from n i (s ∷ ss) p = rw (out-content n (s .content) (p .0)) (out-from n (suc i) ss (p .1))
+out-from z i [] p = refl
+out-from z i (s ∷ ss) p = rw (out-content z (s .content) (p .0)) (out-from z (suc i) ss (p .1))
 
-pub out-slots : (n : ℕ) (ss : List Slot) → Holds (Sendable n) ss → slotsOk n ss ≡ true
+pub out-slots : (z : Sizes) (ss : List Slot) → Holds (Sendable z) ss → slotsOk z ss ≡ true
 unfolding slotsOk
-out-slots n ss p = out-from n 0 ss p
+out-slots z ss p = out-from z 0 ss p

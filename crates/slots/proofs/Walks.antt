@@ -14,19 +14,19 @@ use Rattle.base.proofs.Tests.{by-test}
 use Rattle.quorum.specs.Sets.{isIn, membersFrom, members}
 use Rattle.quorum.proofs.Laws.{members-step}
 use Rattle.message.specs.declared.Message.{Message}
-use Rattle.message.specs.Message.{messageTo}
+use Rattle.message.specs.Message.{addressedTo}
 use Rattle.slots.specs.declared.Slot.{Slot}
 use Rattle.slots.specs.declared.Turn.{Turn}
 use Rattle.slots.specs.Slots.{slotCount, emptySlot, slotWith, isEmpty, empties, lowest, placed, placedEach}
-use Rattle.slots.specs.Parts.{counted, turn}
+use Rattle.slots.specs.Parts.{countedWith, turnOf}
 
 module _ (ss : List Slot) (i : ℕ) (h : i < length ss) where
   split : drop i ss ≡ getD ss i emptySlot ∷ drop (i + 1) ss
   split = from-place ss i emptySlot h
 
   -- a turn of the walk that counts
-  pub counted-turn : (count : ℕ) → counted count (getD ss i emptySlot) + empties (drop (i + 1) ss) ≡ count + empties (drop i ss)
-  unfolding counted empties
+  pub counted-turn : (count : ℕ) → countedWith count (getD ss i emptySlot) + empties (drop (i + 1) ss) ≡ count + empties (drop i ss)
+  unfolding countedWith empties
   counted-turn count = rw split (go (isEmpty (getD ss i emptySlot .content)))
     where
       go : (b : Bool) → cond b (suc count) count + empties (drop (i + 1) ss) ≡ count + cond b (suc (empties (drop (i + 1) ss))) (empties (drop (i + 1) ss))
@@ -73,14 +73,14 @@ lowest-filled ss i m h e = rw add-one (filled ss i m h e)
 placed-each-full : (ss : List Slot) (m : Message) (hs : List ℕ) → length ss ≤ lowest ss → placedEach ss m hs ≡ ss
 unfolding placedEach placed
 placed-each-full ss m [] h = refl
-placed-each-full ss m (k ∷ hs) h = rw (set-out ss (lowest ss) (slotWith (messageTo m k)) h) (placed-each-full ss m hs h)
+placed-each-full ss m (k ∷ hs) h = rw (set-out ss (lowest ss) (slotWith (addressedTo m k)) h) (placed-each-full ss m hs h)
 
 -- a host that is a receiver has its turn, and one that is none has not
 module _ (ss : List Slot) (m : Message) (receivers h n : ℕ) (b : h < n) where
   next : (x : Bool) → isIn receivers h ≡ x → membersFrom receivers h (n - h) ≡ cond x (h ∷ membersFrom receivers (h + 1) (n - (h + 1))) (membersFrom receivers (h + 1) (n - (h + 1)))
   next x e = members-step receivers h n b ∙ ap (λ (y : Bool). cond y (h ∷ membersFrom receivers (h + 1) (n - (h + 1))) (membersFrom receivers (h + 1) (n - (h + 1)))) e
 
-  placed-turn : isIn receivers h ≡ true → placedEach ss m (membersFrom receivers h (n - h)) ≡ placedEach (placed ss (messageTo m h)) m (membersFrom receivers (h + 1) (n - (h + 1)))
+  placed-turn : isIn receivers h ≡ true → placedEach ss m (membersFrom receivers h (n - h)) ≡ placedEach (placed ss (addressedTo m h)) m (membersFrom receivers (h + 1) (n - (h + 1)))
   unfolding placedEach
   placed-turn e = ap (placedEach ss m) (next true e)
 
@@ -104,8 +104,8 @@ module _ {n receivers : ℕ} {m : Message} {start ss : List Slot} {h i : ℕ} (p
   WalksOn t = Placing n receivers m start (set ss i (t .slot)) (t .host) (t .at) × ((n - t .host) + (slotCount - t .at) < (n - h) + (slotCount - i))
 
   -- a turn of the walk that places goes on with it, and it ends
-  pub placing-turn : h < n → i < slotCount → WalksOn (turn m receivers h i (getD ss i emptySlot))
-  unfolding turn
+  pub placing-turn : h < n → i < slotCount → WalksOn (turnOf m receivers h i (getD ss i emptySlot))
+  unfolding turnOf
   placing-turn b c =
       by-test WalksOn _ _ _
       (λ e. by-test WalksOn _ _ _ (λ f. (fill e f, omega arith)) (λ f. (rw (set-getD ss i emptySlot) (on f), omega arith)))
@@ -123,15 +123,15 @@ module _ {n receivers : ℕ} {m : Message} {start ss : List Slot} {h i : ℕ} (p
       on e = record { hosts = p .hosts; places = omega arith; long = p .long; taken = omega (arith, p .taken, lowest-later ss i here e); rest = p .rest }
 
       -- a receiver's message goes into a slot that is empty
-      fill : isIn receivers h ≡ true → isEmpty (getD ss i emptySlot .content) ≡ true → Placing n receivers m start (set ss i (slotWith (messageTo m h))) (h + 1) (i + 1)
+      fill : isIn receivers h ≡ true → isEmpty (getD ss i emptySlot .content) ≡ true → Placing n receivers m start (set ss i (slotWith (addressedTo m h))) (h + 1) (i + 1)
       fill e f =
           let low : lowest ss ≡ i = omega (arith, p .taken, lowest-here ss i here f) in
           record {
             hosts = omega arith;
             places = omega arith;
-            long = length-set ss i (slotWith (messageTo m h)) ∙ p .long;
-            taken = lowest-filled ss i (messageTo m h) here low;
-            rest = rw (← placed-here ss i (messageTo m h) low) (sym (placed-turn ss m receivers h n b e) ∙ p .rest);
+            long = length-set ss i (slotWith (addressedTo m h)) ∙ p .long;
+            taken = lowest-filled ss i (addressedTo m h) here low;
+            rest = rw (← placed-here ss i (addressedTo m h) low) (sym (placed-turn ss m receivers h n b e) ∙ p .rest);
           }
 
   -- where the hosts or the slots end

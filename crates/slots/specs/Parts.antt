@@ -4,7 +4,7 @@ use Prim.Native.Nat.{ℕ, suc, _+_}
 use mathlib.Core.Bool.{Bool, cond}
 use Rattle.quorum.specs.Sets.{isIn}
 use Rattle.message.specs.declared.Message.{Message}
-use Rattle.message.specs.Message.{messageTo}
+use Rattle.message.specs.Message.{addressedTo}
 use Rattle.slots.specs.declared.Content.{Content}
 use Rattle.slots.specs.declared.Slot.{Slot}
 use Rattle.slots.specs.declared.Turn.{Turn}
@@ -15,18 +15,18 @@ unfoldable pub slotAfter : Bool → Slot → Slot
 slotAfter frees held = cond frees emptySlot held
 
 -- how many more slots are empty then: one, where a slot that held a message is freed
-unfoldable pub gained : Bool → Content → ℕ
-gained frees content = cond (isEmpty content) 0 (cond frees 1 0)
+unfoldable pub gainedBy : Bool → Content → ℕ
+gainedBy frees content = cond (isEmpty content) 0 (cond frees 1 0)
 
 -- ---- the walks
 
 -- one empty slot more, where this one is
-unfoldable pub counted : ℕ → Slot → ℕ
-counted count held = cond (isEmpty (held .content)) (suc count) count
+unfoldable pub countedWith : ℕ → Slot → ℕ
+countedWith count held = cond (isEmpty (held .content)) (suc count) count
 
 -- host h and slot j have their turn: a receiver's message goes into an empty slot
-unfoldable pub turn : Message → ℕ → ℕ → ℕ → Slot → Turn
-turn m receivers h j held =
+unfoldable pub turnOf : Message → ℕ → ℕ → ℕ → Slot → Turn
+turnOf m receivers h j held =
     cond (isIn receivers h)
-    (cond (isEmpty (held .content)) (record { slot = slotWith (messageTo m h); host = h + 1; at = j + 1 }) (record { slot = held; host = h; at = j + 1 }))
+    (cond (isEmpty (held .content)) (record { slot = slotWith (addressedTo m h); host = h + 1; at = j + 1 }) (record { slot = held; host = h; at = j + 1 }))
     (record { slot = held; host = h + 1; at = j })

@@ -7,8 +7,9 @@ use lib.ListN.{set, replicate}
 use Rattle.base.specs.Refusals.{done, unless, refusedSlot, refusedFull}
 use Rattle.base.specs.Lists.{every}
 use Rattle.quorum.specs.Sets.{members}
+use Rattle.message.specs.declared.Sizes.{Sizes}
 use Rattle.message.specs.declared.Message.{Message}
-use Rattle.message.specs.Message.{numbersOf, messageTo}
+use Rattle.message.specs.Message.{numbersOf, addressedTo}
 use Rattle.message.specs.Faults.{faultOf}
 use Rattle.slots.specs.declared.Content.{Content}
 use Rattle.slots.specs.declared.Slot.{Slot}
@@ -33,15 +34,15 @@ isEmpty (Content.One m) = false
 -- ---- refusals
 
 -- 1 where it does not hold: 'a slot holds a message that writing to its target would refuse'
-unfoldable pub contentOk : ℕ → Content → Bool
-contentOk n Content.Empty = true
-contentOk n (Content.One m) = eqb (faultOf n (numbersOf m)) done
+unfoldable pub contentOk : Sizes → Content → Bool
+contentOk z Content.Empty = true
+contentOk z (Content.One m) = eqb (faultOf z (numbersOf m)) done
 
-abbrev pub slotOk : ℕ → ℕ → Slot → Bool
-slotOk n i s = contentOk n (s .content)
+abbrev pub slotOk : Sizes → ℕ → Slot → Bool
+slotOk z i s = contentOk z (s .content)
 
-unfoldable pub slotsOk : ℕ → List Slot → Bool
-slotsOk n ss = every (slotOk n) 0 ss
+unfoldable pub slotsOk : Sizes → List Slot → Bool
+slotsOk z ss = every (slotOk z) 0 ss
 
 -- 12: 'slot 96 or more, or empty'
 abbrev pub slotRefusal : ℕ → Content → ℕ
@@ -70,7 +71,7 @@ placed ss m = set ss (lowest ss) (slotWith m)
 -- to each of these hosts, in their order
 unfoldable pub placedEach : List Slot → Message → List ℕ → List Slot
 placedEach ss m [] = ss
-placedEach ss m (h ∷ hs) = placedEach (placed ss (messageTo m h)) m hs
+placedEach ss m (h ∷ hs) = placedEach (placed ss (addressedTo m h)) m hs
 
 -- 'receivers in rising order'
 abbrev pub placedTo : ℕ → List Slot → Message → ℕ → List Slot

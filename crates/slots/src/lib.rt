@@ -3,9 +3,10 @@
 ghost use mathlib.Core.Path.{_≡_};
 ghost use Prim.Native.Nat.{_<_, _-_, _^_};
 ghost use Rattle.slots.specs.Slots.{isEmpty, contentOk, slotsOk, noMessages};
-ghost use Rattle.slots.specs.Parts.{slotAfter, gained, counted, turn};
+ghost use Rattle.slots.specs.Parts.{slotAfter, gainedBy, countedWith, turnOf};
 use base::DONE;
 use message::Message;
+use message::Sizes;
 
 // How many slots a cell has.
 pub const SLOTS: usize = 96;
@@ -37,12 +38,12 @@ pub fn is_empty(c: Content) -> bool
 }
 
 // Whether writing to its target refuses nothing in the message that a slot holds, if it holds one.
-fn content_ok(n: u8, c: Content) -> bool
-    ensures { λ r. ⌜ r ≡ contentOk n c ⌝ }
+fn content_ok(z: Sizes, c: Content) -> bool
+    ensures { λ r. ⌜ r ≡ contentOk z c ⌝ }
 {
     match c {
         Content::Empty => true,
-        Content::One(m) => message::fault(n, message::numbers_of(m)) == DONE,
+        Content::One(m) => message::fault(z, message::numbers_of(m)) == DONE,
     }
 }
 
@@ -57,14 +58,14 @@ pub fn no_messages() -> [Slot; 96]
 }
 
 // The limits of the slots, in one walk.
-pub fn slots_ok(n: u8, slots: [Slot; 96]) -> bool
-    ensures { λ r. ⌜ r ≡ slotsOk n slots ⌝ }
+pub fn slots_ok(z: Sizes, slots: [Slot; 96]) -> bool
+    ensures { λ r. ⌜ r ≡ slotsOk z slots ⌝ }
 {
     let mut i: usize = 0;
     while i < SLOTS {
         let held = slots[i];
         let content = held.content;
-        if !content_ok(n, content) {
+        if !content_ok(z, content) {
             return false;
         }
         i += 1;
@@ -86,7 +87,7 @@ pub fn slot_after(frees: bool, held: Slot) -> Slot
 
 // By how many the empty slots grow by that, for 13: by one where a slot that held a message is freed.
 pub fn gained_by(frees: bool, content: Content) -> usize
-    ensures { λ r. ⌜ r ≡ gained frees content ⌝ }
+    ensures { λ r. ⌜ r ≡ gainedBy frees content ⌝ }
 {
     if is_empty(content) {
         return 0;
@@ -100,7 +101,7 @@ pub fn gained_by(frees: bool, content: Content) -> usize
 // The walk that counts: one more where this slot is empty.
 pub fn counted_with(count: usize, held: Slot) -> usize
     requires { ⌜ count < 2 ^ 64 - 1 ⌝ }
-    ensures { λ r. ⌜ r ≡ counted count held ⌝ }
+    ensures { λ r. ⌜ r ≡ countedWith count held ⌝ }
 {
     let content = held.content;
     if is_empty(content) {
@@ -112,9 +113,9 @@ pub fn counted_with(count: usize, held: Slot) -> usize
 // The walk that places, at host h and slot j: a host that is no receiver is passed over, and so is a slot that is taken.
 pub fn turn_of(m: Message, receivers: u16, h: u8, j: usize, held: Slot) -> Turn
     requires { ⌜ (h < 16) × (j < 96) ⌝ }
-    ensures { λ r. ⌜ r ≡ turn m receivers h j held ⌝ }
+    ensures { λ r. ⌜ r ≡ turnOf m receivers h j held ⌝ }
 {
-    if !quorum::has(receivers, h) {
+    if !quorum::is_in(receivers, h) {
         return Turn {
             slot: held,
             host: h + 1,
@@ -129,7 +130,7 @@ pub fn turn_of(m: Message, receivers: u16, h: u8, j: usize, held: Slot) -> Turn
             at: j + 1,
         };
     }
-    let addressed = message::message_of(message::with_target(message::numbers_of(m), h));
+    let addressed = message::addressed_to(m, h);
     Turn {
         slot: Slot {
             content: Content::One(addressed),

@@ -1,2 +1,3 @@
-pub mod Limits
+pub mod StateLimits
 pub mod Blank
+pub mod Ageing

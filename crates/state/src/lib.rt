@@ -1,14 +1,16 @@
-// What a host keeps of one sheet, the settings of a cell, and whether their numbers are within document 01's limits (number 1).
+// What a host keeps of one sheet, the settings of a cell, and whether their numbers are within document 01's limits (number 1); and
+// the blank state, in which nothing is kept.
 ghost use mathlib.Core.Path.{_≡_};
-ghost use Rattle.state.specs.Blank.{blankState};
-ghost use Rattle.state.specs.Limits.{settingsOk, ballotOk, leaseOk, acceptedOk, promisedOk, lastOk, namedOk, askingOk, proposingOk, roundOk, stateOk, durationOk};
+ghost use Rattle.state.specs.Ageing.{agedAt};
+ghost use Rattle.state.specs.Blank.{blankState, noPromise, noLease, noTick, noRound, noHolder, isBlankState};
+ghost use Rattle.state.specs.StateLimits.{sizesOf, settingsOk, ballotOk, leaseOk, acceptedOk, promisedOk, lastOk, namedOk, askingOk, proposingOk, roundOk, stateOk, durationOk};
 use message::Ballot;
 use message::KeepersEnd;
 use message::LAST_END;
 use message::LAST_TICK;
-use message::Lease;
+use message::Sizes;
 use rules::Accepted;
-use rules::LastTick;
+use rules::LastBallot;
 use rules::Named;
 use rules::Promised;
 
@@ -48,7 +50,7 @@ pub enum Round {
 pub struct State {
     pub promised: Promised,
     pub accepted: Accepted,
-    pub last: LastTick,
+    pub last: LastBallot,
     pub round: Round,
     pub named: Named,
 }
@@ -58,20 +60,114 @@ impl State {
     pub fn restarted(self) -> State
         ensures { λ r. ⌜ r ≡ blankState ⌝ }
     {
+        blank_state()
+    }
+
+    // The rise of a clock drops an accepted lease, or a named holder, whose end has come.
+    pub fn aged_at(self, clock: u64) -> State
+        ensures { λ r. ⌜ r ≡ agedAt clock self ⌝ }
+    {
+        let promised = self.promised;
+        let accepted = self.accepted;
+        let last = self.last;
+        let round = self.round;
+        let named = self.named;
         State {
-            promised: Promised::Nothing,
-            accepted: Accepted::Nothing,
-            last: LastTick::Never,
-            round: Round::Idle,
-            named: Named::Nobody,
+            promised,
+            accepted: rules::accepted_at(clock, accepted),
+            last,
+            round,
+            named: rules::named_at(clock, named),
         }
     }
 }
 
+// What whoever reads or writes a cell's frames is handed.
+pub fn sizes_of(s: Settings) -> Sizes
+    ensures { λ r. ⌜ r ≡ sizesOf s ⌝ }
+{
+    Sizes { n: s.n }
+}
+
+// ---- the blank state
+
+pub fn blank_state() -> State
+    ensures { λ r. ⌜ r ≡ blankState ⌝ }
+{
+    State {
+        promised: Promised::Nothing,
+        accepted: Accepted::Nothing,
+        last: LastBallot::Never,
+        round: Round::Idle,
+        named: Named::Nobody,
+    }
+}
+
+fn no_promise(p: Promised) -> bool
+    ensures { λ r. ⌜ r ≡ noPromise p ⌝ }
+{
+    match p {
+        Promised::Nothing => true,
+        Promised::To(_) => false,
+    }
+}
+
+fn no_lease(a: Accepted) -> bool
+    ensures { λ r. ⌜ r ≡ noLease a ⌝ }
+{
+    match a {
+        Accepted::Nothing => true,
+        Accepted::One(_) => false,
+    }
+}
+
+fn no_tick(l: LastBallot) -> bool
+    ensures { λ r. ⌜ r ≡ noTick l ⌝ }
+{
+    match l {
+        LastBallot::Never => true,
+        LastBallot::At(_) => false,
+    }
+}
+
+fn no_round(r: Round) -> bool
+    ensures { λ v. ⌜ v ≡ noRound r ⌝ }
+{
+    match r {
+        Round::Idle => true,
+        Round::Asking(_) => false,
+        Round::Proposing(_) => false,
+    }
+}
+
+fn no_holder(m: Named) -> bool
+    ensures { λ r. ⌜ r ≡ noHolder m ⌝ }
+{
+    match m {
+        Named::Nobody => true,
+        Named::One(_) => false,
+    }
+}
+
+pub fn is_blank_state(t: State) -> bool
+    ensures { λ r. ⌜ r ≡ isBlankState t ⌝ }
+{
+    let promised = t.promised;
+    let accepted = t.accepted;
+    let last = t.last;
+    let round = t.round;
+    let named = t.named;
+    no_promise(promised)
+        & (no_lease(accepted) & (no_tick(last) & (no_round(round) & no_holder(named))))
+}
+
+// ---- limits
+
 pub fn settings_ok(s: Settings) -> bool
     ensures { λ r. ⌜ r ≡ settingsOk s ⌝ }
 {
-    quorum::cell_fits(s.n) & ((s.longest <= LAST_LONGEST) & (s.spread < s.longest))
+    quorum::cell_fits(s.n)
+        & ((1 <= s.longest) & ((s.longest <= LAST_LONGEST) & (s.spread < s.longest)))
 }
 
 // Whether a lease of this duration, with the spread of clocks, is no longer than the longest.
@@ -87,10 +183,11 @@ pub fn ballot_ok(n: u8, b: Ballot) -> bool
     (b.tick <= LAST_TICK) & (b.host < n)
 }
 
-pub fn lease_ok(n: u8, l: Lease) -> bool
-    ensures { λ r. ⌜ r ≡ leaseOk n l ⌝ }
+// A lease, or a holder, of this ballot, owner and end.
+pub fn lease_ok(n: u8, b: Ballot, owner: u8, end: u64) -> bool
+    ensures { λ r. ⌜ r ≡ leaseOk n b owner end ⌝ }
 {
-    ballot_ok(n, l.ballot) & ((l.owner < n) & (l.end.0 <= LAST_END))
+    ballot_ok(n, b) & ((owner < n) & (end <= LAST_END))
 }
 
 pub fn accepted_ok(n: u8, a: Accepted) -> bool
@@ -98,7 +195,7 @@ pub fn accepted_ok(n: u8, a: Accepted) -> bool
 {
     match a {
         Accepted::Nothing => true,
-        Accepted::One(l) => lease_ok(n, l),
+        Accepted::One(l) => lease_ok(n, l.ballot, l.owner, l.end.0),
     }
 }
 
@@ -111,12 +208,12 @@ pub fn promised_ok(n: u8, p: Promised) -> bool
     }
 }
 
-pub fn last_ok(l: LastTick) -> bool
+pub fn last_ok(l: LastBallot) -> bool
     ensures { λ r. ⌜ r ≡ lastOk l ⌝ }
 {
     match l {
-        LastTick::Never => true,
-        LastTick::At(t) => t <= LAST_TICK,
+        LastBallot::Never => true,
+        LastBallot::At(t) => t <= LAST_TICK,
     }
 }
 
@@ -125,7 +222,7 @@ pub fn named_ok(n: u8, m: Named) -> bool
 {
     match m {
         Named::Nobody => true,
-        Named::One(h) => ballot_ok(n, h.ballot) & ((h.owner < n) & (h.end.0 <= LAST_END)),
+        Named::One(h) => lease_ok(n, h.ballot, h.owner, h.end.0),
     }
 }
 
@@ -143,8 +240,7 @@ pub fn proposing_ok(s: Settings, number: u8, p: Proposing) -> bool
     ensures { λ r. ⌜ r ≡ proposingOk s number p ⌝ }
 {
     (p.ballot.host == number)
-        & (ballot_ok(s.n, p.ballot)
-            & ((p.owner < s.n) & ((p.end.0 <= LAST_END) & quorum::is_below(p.replied, s.n))))
+        & (lease_ok(s.n, p.ballot, p.owner, p.end.0) & quorum::is_below(p.replied, s.n))
 }
 
 pub fn round_ok(s: Settings, number: u8, r: Round) -> bool

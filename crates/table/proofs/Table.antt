@@ -1,27 +1,29 @@
 -- The joint table holds, and so do the three runs: each entry is what the definitions compute. Assumes nothing.
 use mathlib.Core.Path.{refl}
 use lib.Count.{ones, onesIn}
-use Rattle.base.specs.Refusals.{allHold, answer, firstOf}
-use Rattle.base.specs.Lists.{every}
+use Rattle.base.specs.Refusals.{firstOf}
+use Rattle.base.specs.Lists.{every, allOf}
 use Rattle.wire.specs.Wire.{le, numberAt, total, numbersAt, packed}
-use Rattle.quorum.specs.Sets.{majority, membersFrom}
-use Rattle.message.specs.Message.{lastTick, lastEnd, isAbove, kindOf, numbersOf, messageOf, messageTo}
+use Rattle.quorum.specs.Sets.{isMajority, membersFrom}
+use Rattle.message.specs.Message.{lastTick, lastEnd, isAbove, knownKind, isResponse, numbersOf, messageOf, addressedTo}
 use Rattle.message.specs.Faults.{partyFits, faultOf, partyFitsTo, faultTo}
-use Rattle.layout.specs.Layout.{moreOf, bytesOf, valueIn, numbersIn}
+use Rattle.layout.specs.Layout.{moreOf, kindLength, bytesOf, valueIn, numbersIn}
 use Rattle.frame.specs.Reading.{readAnswer, readOf}
-use Rattle.rules.specs.Rules.{waitEnd, acceptedAt, namedAt, isFresh, mayPromise, hasEnded, higherOf, acts, claimOf, isForbidden, mayAccept, afterAccept, namedBy}
-use Rattle.state.specs.Limits.{lastLongest, settingsOk, durationOk, ballotOk, leaseOk, acceptedOk, promisedOk, lastOk, namedOk, askingOk, proposingOk, roundOk, stateOk}
-use Rattle.host.specs.Steps.{lastWait, hostOk, advanceRefusal, advanced, advanceOf, restartRefusal, restarted, restartOf, startRefusal, started, startOf, responseWith, onPrepareRequest, counted, proposing, asked, onReply, onPrepareResponse, onProposeRequest, voted, learning, chosen, onVote, onProposed, onProposeResponse, onLearn, onMessage, acted, messageRefusal, messageStep, decides, isDecidingVote, namedByMajority}
-use Rattle.places.specs.Places.{noPromise, noLease, noTick, noRound, noHolder, isBlankState, placeOk, stateAtOk, placesOk, statesOk, isNear, allNear, clocksOk, newHost, eachHost, advancesRefusal}
+use Rattle.rules.specs.Rules.{waitEnd, acceptedAt, namedAt, isFresh, mayPromise, hasEnded, higherOf, actsOn, valueToPropose, isForbidden, mayAccept, afterAccept, namedBy}
+use Rattle.state.specs.StateLimits.{lastLongest, settingsOk, durationOk, ballotOk, leaseOk, acceptedOk, promisedOk, lastOk, namedOk, askingOk, proposingOk, roundOk, stateOk}
+use Rattle.state.specs.Ageing.{agedAt}
+use Rattle.state.specs.Blank.{noPromise, noLease, noTick, noRound, noHolder, isBlankState}
+use Rattle.host.specs.Steps.{lastWait, hostOk, advanceRefusal, advancedHost, advanceOf, restartRefusal, restartedHost, restartOf, startRefusal, onStart, startOf, responseWith, onPrepareRequest, askingAfter, onMajority, onCountedReply, onReply, onPrepareResponse, onProposeRequest, proposingAfter, onNaming, onChosen, onCountedVote, onVote, onProposeResponse, onLearn, onMessage, onDelivery, receiveRefusal, receiveOf, decides, isDecidingVote, namedByMajority}
+use Rattle.places.specs.Places.{placeOk, stateAtOk, placesOk, statesOk, clocksOk, newHost, eachHost, advancesRefusal}
 use Rattle.slots.specs.Slots.{isEmpty, contentOk, slotsOk, empties, lowest, placed, placedEach}
-use Rattle.cell.specs.Limits.{cellOk}
-use Rattle.cell.specs.Events.{messagesIn, sentTo, stepped, openingRefusal, opened, openingOf, advanceAllRefusal, advancedAll, advancedOne, advanceOneRefusal, startAtRefusal, deliverFull, deliverRefusal, delivered, loseRefusal, repeatRefusal, repeated, restartAtRefusal, refusalOf, afterOf, eventOf}
+use Rattle.cell.specs.CellLimits.{cellOk}
+use Rattle.cell.specs.Events.{messagesIn, sentTo, stepped, openingRefusal, openedWith, openingOf, advanceAllRefusal, advancedAll, advancedOne, advanceOneRefusal, startAtRefusal, deliverFull, deliverRefusal, delivered, loseRefusal, repeatRefusal, repeated, restartAtRefusal, refusalOf, afterOf, eventOf}
 use Rattle.cell.specs.Runs.{run, answers}
 use Rattle.table.specs.Table.{Table}
 use Rattle.table.specs.NotEmpty.{NotEmpty}
 
 computed : Table × NotEmpty
-unfolding ones onesIn allHold answer firstOf le numberAt total numbersAt packed majority membersFrom lastTick lastEnd isAbove kindOf numbersOf messageOf messageTo partyFits faultOf partyFitsTo faultTo moreOf bytesOf valueIn numbersIn readAnswer readOf waitEnd acceptedAt namedAt isFresh mayPromise hasEnded higherOf acts claimOf isForbidden mayAccept afterAccept namedBy lastLongest settingsOk durationOk ballotOk leaseOk acceptedOk promisedOk lastOk namedOk askingOk proposingOk roundOk stateOk lastWait hostOk advanceRefusal advanced advanceOf restartRefusal restarted restartOf startRefusal started startOf responseWith onPrepareRequest counted proposing asked onReply onPrepareResponse onProposeRequest voted learning chosen onVote onProposed onProposeResponse onLearn onMessage acted messageRefusal messageStep decides isDecidingVote namedByMajority isEmpty contentOk slotsOk empties lowest placed placedEach noPromise noLease noTick noRound noHolder isBlankState placeOk stateAtOk placesOk statesOk isNear allNear clocksOk cellOk messagesIn sentTo stepped openingRefusal newHost opened openingOf eachHost advancesRefusal advanceAllRefusal advancedAll advancedOne advanceOneRefusal startAtRefusal deliverFull deliverRefusal delivered loseRefusal repeatRefusal repeated restartAtRefusal refusalOf afterOf eventOf run answers every
+unfolding ones onesIn firstOf le numberAt total numbersAt packed isMajority membersFrom lastTick lastEnd isAbove knownKind isResponse numbersOf messageOf addressedTo partyFits faultOf partyFitsTo faultTo moreOf kindLength bytesOf valueIn numbersIn readAnswer readOf waitEnd acceptedAt namedAt isFresh mayPromise hasEnded higherOf actsOn valueToPropose isForbidden mayAccept afterAccept namedBy lastLongest settingsOk durationOk ballotOk leaseOk acceptedOk promisedOk lastOk namedOk askingOk proposingOk roundOk stateOk agedAt lastWait hostOk advanceRefusal advancedHost advanceOf restartRefusal restartedHost restartOf startRefusal onStart startOf responseWith onPrepareRequest askingAfter onMajority onCountedReply onReply onPrepareResponse onProposeRequest proposingAfter onNaming onChosen onCountedVote onVote onProposeResponse onLearn onMessage onDelivery receiveRefusal receiveOf decides isDecidingVote namedByMajority isEmpty contentOk slotsOk empties lowest placed placedEach noPromise noLease noTick noRound noHolder isBlankState placeOk stateAtOk placesOk statesOk clocksOk cellOk messagesIn sentTo stepped openingRefusal newHost openedWith openingOf eachHost advancesRefusal advanceAllRefusal advancedAll advancedOne advanceOneRefusal startAtRefusal deliverFull deliverRefusal delivered loseRefusal repeatRefusal repeated restartAtRefusal refusalOf afterOf eventOf run answers every allOf
 computed = (
   record { P1 = refl; P2 = refl; P3 = refl; P4 = refl; P5 = (refl, refl); P6 = refl; P7 = refl; P8 = refl; P9 = (refl, refl, refl, refl); P10 = refl; P11 = refl; P12 = refl },
   record { answered = refl; learned = refl; ended = refl; passed = refl; waits = refl; returned = refl },

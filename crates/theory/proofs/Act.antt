@@ -5,11 +5,11 @@ use native.Mathlib.Nat.{le-refl}
 use mathlib.Core.Path.{_≡_, refl, sym, ap, _∙_}
 use mathlib.Core.Logic.{_⊎_, inl, inr, _≢_}
 use mathlib.Core.Option.{Option, none, some}
-use Rattle.theory.specs.Numbers.{proposer}
+use Rattle.theory.specs.Ballots.{proposer}
 use Rattle.theory.specs.Model.{Setup, Message, prepareRequest, prepareResponse, proposeRequest, proposeResponse, learn, Host, World, Sent, put}
 use Rattle.theory.specs.Invariant.{Voted, Proposed, Live, MessageOk, HostOk, Invariant}
-use Rattle.theory.proofs.Numbers.{changed-all, with-old, with-cases}
-use Rattle.theory.proofs.Kept.{Fresh, Remembers, Later, live-before, message-kept, host-kept}
+use Rattle.theory.proofs.Ballots.{changed-all, with-old, with-cases}
+use Rattle.theory.proofs.Later.{Fresh, Remembers, Later, live-before, message-kept, host-kept}
 
 -- a number for each kind of message, 0 for none: to tell them apart
 abbrev pub kind : Option Message → ℕ

@@ -5,7 +5,7 @@ use native.Mathlib.Nat.{le-refl}
 use mathlib.Core.Path.{_≡_, ap, subst}
 use mathlib.Core.Logic.{_⊎_, inl, inr}
 use mathlib.Core.Option.{Option, none, some, Option·none-ne-some, Option·some-injective}
-use Rattle.theory.specs.Numbers.{tick, proposer, Lease}
+use Rattle.theory.specs.Ballots.{tick, proposer, Lease}
 use Rattle.theory.specs.Model.{Setup, Message, prepareRequest, prepareResponse, idle, asking, Host, World, Sent, put, withRound, withAsking, Higher, NewTick}
 use Rattle.theory.specs.Invariant.{Proposed, Below, Heard, Reply, MessageOk, Asking, Invariant}
 use Rattle.theory.proofs.Act.{kind, Owed, held}

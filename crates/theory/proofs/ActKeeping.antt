@@ -5,11 +5,11 @@ use native.Mathlib.Nat.{le-refl}
 use mathlib.Core.Path.{_≡_, refl, ap, subst}
 use mathlib.Core.Logic.{_⊎_, inl, inr}
 use mathlib.Core.Option.{Option, none, some, Option·none-ne-some, Option·some-injective}
-use Rattle.theory.specs.Numbers.{Lease, Holder}
+use Rattle.theory.specs.Ballots.{Lease, Holder}
 use Rattle.theory.specs.Model.{Setup, Message, prepareRequest, prepareResponse, proposeRequest, proposeResponse, learn, Host, World, Sent, put, restarted, withVote, withHolder, accepting, Above, NotBelow}
 use Rattle.theory.specs.Invariant.{Voted, Proposed, Live, Reply, Holding, MessageOk, HostOk, Invariant}
-use Rattle.theory.proofs.Numbers.{changed-here, with-cases}
-use Rattle.theory.proofs.Kept.{Fresh, Later, live-before, holding-kept, accepted-kept-on, round-kept, named-kept}
+use Rattle.theory.proofs.Ballots.{changed-here, with-cases}
+use Rattle.theory.proofs.Later.{Fresh, Later, live-before, holding-kept, accepted-kept-on, round-kept, named-kept}
 use Rattle.theory.proofs.Act.{kind, Owed, later, held}
 use Rattle.theory.proofs.ActParts.{top-promised, voted-top, plain-owed, voted-before, proposed-before, mute}
 

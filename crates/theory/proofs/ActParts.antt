@@ -5,11 +5,11 @@ use native.Mathlib.Nat.{le-refl}
 use mathlib.Core.Path.{_≡_, refl, ap}
 use mathlib.Core.Logic.{_⊎_, inl, inr}
 use mathlib.Core.Option.{Option, none, some, Option·none-ne-some}
-use Rattle.theory.specs.Numbers.{tick, Lease, top}
+use Rattle.theory.specs.Ballots.{tick, Lease, top}
 use Rattle.theory.specs.Model.{Setup, Message, proposeRequest, proposeResponse, Round, Host, World, put, withRound, withAsking}
 use Rattle.theory.specs.Invariant.{Voted, Proposed, Joined, Shut, Dead, Live, RoundOk, HostOk, Invariant}
-use Rattle.theory.proofs.Numbers.{le-or-lt, with-cases}
-use Rattle.theory.proofs.Kept.{Remembers, Mute, accepted-kept-on, round-kept, named-kept}
+use Rattle.theory.proofs.Ballots.{le-or-lt, with-cases}
+use Rattle.theory.proofs.Later.{Remembers, Mute, accepted-kept-on, round-kept, named-kept}
 use Rattle.theory.proofs.Act.{kind, Plain, NoVote, NoProposal, Owed, later, held}
 
 module _ {𝒞 : Setup} where

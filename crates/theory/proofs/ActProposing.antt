@@ -5,11 +5,11 @@ use native.Mathlib.Nat.{le-refl}
 use mathlib.Core.Path.{_≡_, ap, subst, _∙_}
 use mathlib.Core.Logic.{_⊎_, inl, inr}
 use mathlib.Core.Option.{Option, none, some, Option·some-injective}
-use Rattle.theory.specs.Numbers.{tick, proposer, Lease, top}
+use Rattle.theory.specs.Ballots.{tick, proposer, Lease, top}
 use Rattle.theory.specs.Model.{Setup, Message, proposeRequest, proposeResponse, learn, asking, proposing, Host, World, Sent, put, withRound, HoldersEnd, Choice, free, over, renew, other}
 use Rattle.theory.specs.Invariant.{Voted, Proposed, Live, Proposal, Holding, MessageOk, Asking, Proposing, Invariant}
-use Rattle.theory.proofs.Numbers.{le-or-lt, with-new}
-use Rattle.theory.proofs.Kept.{Later, message-kept, joined-kept, holding-kept, round-kept}
+use Rattle.theory.proofs.Ballots.{le-or-lt, with-new}
+use Rattle.theory.proofs.Later.{Later, message-kept, joined-kept, holding-kept, round-kept}
 use Rattle.theory.proofs.Act.{kind, Owed, NewProposal, later, held}
 use Rattle.theory.proofs.ActParts.{come-dead, under, joined-shut, plain-owed, voted-before, mute, host-with-round, keep-round}
 

@@ -5,10 +5,10 @@ use mathlib.Core.Path.{_≡_, sym}
 use mathlib.Core.Logic.{_⊎_, inl, inr}
 use mathlib.Core.Option.{some, Option·none-ne-some}
 use mathlib.Core.List.{List·Memᴰ·not-nil}
-use Rattle.theory.specs.Numbers.{Holder}
+use Rattle.theory.specs.Ballots.{Holder}
 use Rattle.theory.specs.Model.{Setup, World, opened, Step, act, age, Reach, here, then}
 use Rattle.theory.specs.Invariant.{Blocked, Live, Chosen, Holding, Invariant}
-use Rattle.theory.proofs.Numbers.{le-or-lt}
+use Rattle.theory.proofs.Ballots.{le-or-lt}
 use Rattle.theory.proofs.Steps.{keep-age, keep-act}
 
 module _ {𝒞 : Setup} where

@@ -1,5 +1,5 @@
-pub mod Numbers
-pub mod Kept
+pub mod Ballots
+pub mod Later
 pub mod Act
 pub mod ActParts
 pub mod ActAsking

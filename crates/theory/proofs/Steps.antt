@@ -4,10 +4,10 @@ use native.Mathlib.Omega.{arith}
 use mathlib.Core.Path.{_≡_, sym, _∙_}
 use mathlib.Core.Logic.{_⊎_, inl, inr}
 use mathlib.Core.Option.{Option, some, Option·none-ne-some}
-use Rattle.theory.specs.Numbers.{Lease, Holder, top}
+use Rattle.theory.specs.Ballots.{Lease, Holder, top}
 use Rattle.theory.specs.Model.{Setup, Message, Host, World, put, Expired, AgedLease, Act, restart, giveUp, start, promise, hear, propose, accept, count, tell, name, Aged, aged}
 use Rattle.theory.specs.Invariant.{Voted, Proposed, Live, HostOk, Invariant}
-use Rattle.theory.proofs.Kept.{Later, live-before, message-kept, round-kept, holding-kept}
+use Rattle.theory.proofs.Later.{Later, live-before, message-kept, round-kept, holding-kept}
 use Rattle.theory.proofs.ActParts.{under}
 use Rattle.theory.proofs.ActAsking.{keep-giveUp, keep-start, keep-hear}
 use Rattle.theory.proofs.ActProposing.{keep-propose, keep-count, keep-tell}

@@ -8,7 +8,7 @@
 use Prim.Native.Nat.{ℕ, _+_, _≤_, _<_}
 use mathlib.Core.Path.{_≡_}
 use mathlib.Core.Option.{Option, some}
-use Rattle.theory.specs.Numbers.{tick, proposer, Lease, Holder, top}
+use Rattle.theory.specs.Ballots.{tick, proposer, Lease, Holder, top}
 use Rattle.theory.specs.Model.{Setup, Message, prepareRequest, prepareResponse, proposeRequest, proposeResponse, learn, Round, idle, asking, proposing, Host, World, Sent}
 
 module _ {𝒞 : Setup} where

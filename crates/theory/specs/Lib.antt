@@ -1,3 +1,3 @@
-pub mod Numbers
+pub mod Ballots
 pub mod Model
 pub mod Invariant

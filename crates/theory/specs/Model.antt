@@ -10,7 +10,7 @@ use mathlib.Core.Path.{_≡_}
 use mathlib.Core.Logic.{_⊎_}
 use mathlib.Core.Option.{Option, none, some}
 use mathlib.Core.List.{List, [], List·Memᴰ}
-use Rattle.theory.specs.Numbers.{tick, proposer, Lease, Holder, top, changed, with-one}
+use Rattle.theory.specs.Ballots.{tick, proposer, Lease, Holder, top, changed, with-one}
 
 -- ---- the setup: T, S, sets of hosts and majorities
 

@@ -13,4 +13,4 @@ messages-in-spec =
     (λ c κs. search needs)
     (λ c. search needs)
     (λ c. rw (c .enum-told .given .1))
-    (λ c. rw (c .count .ensures, c .before .enum-told2 .given .1)))
+    (λ c. rw (c .size-of .ensures, c .before .enum-told2 .given .1)))

@@ -10,4 +10,4 @@ target-in-spec =
     (λ c. search needs)
     (λ c κs. search needs)
     (λ c. search needs)
-    (λ c. rw (c .numbers-of .ensures, c .before .before .content .given .1)))
+    (λ c. rw (c .target-of .ensures, c .before .before .content .given .1)))

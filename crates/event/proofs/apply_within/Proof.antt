@@ -1,35 +1,26 @@
 use Prim.Native.Nat.{ℕ, _≤_, _<_, _-_, _+_}
 use mathlib.Core.Path.{_≡_, refl, sym, ap, _∙_}
 use mathlib.Core.Bool.{Bool, true, false, _&&_}
-use mathlib.Core.List.{List, map}
 use mathlib.Core.Logic.{_⊎_, inl, inr, ⊎-elim}
-use native.Mathlib.Nat.{le-refl}
 use native.Mathlib.Omega.{arith}
 use borrow.Author.Needs.{needs}
-use borrow.Author.Tests.{ltb-true, ltb-false, not-true, not-false, ne-eqb}
+use borrow.Author.Tests.{ltb-true, ltb-false, not-true, not-false}
 use lib.Dec.{ltb}
-use lib.ListN.{length, getD, set, take, drop, length-set}
-use Rattle.base.specs.Refusals.{done, firstOf}
+use lib.ListN.{length, set, drop, length-set}
 use Rattle.base.proofs.Lists.{length-mapped}
 use Rattle.base.proofs.Tests.{both}
-use Rattle.host.specs.declared.Host.{Host}
-use Rattle.host.specs.declared.Stepped.{Stepped}
-use Rattle.host.specs.Steps.{advanceRefusal, advanced, advanceOf}
-use Rattle.host.proofs.Limits.{SettingsIn}
-use Rattle.host.proofs.Kept.{advance-done, answer-advance}
-use Rattle.places.specs.Places.{blankHost, eachHost, advancesRefusal}
-use Rattle.places.proofs.Each.{each-next, each-above}
-use Rattle.places.proofs.Walks.{refusals-step, refusals-found, refusals-end}
+use Rattle.state.proofs.StateLimits.{SettingsIn}
+use Rattle.places.proofs.Walks.{Advancing, advancing-first, advancing-refused, advancing-next, advancing-last}
 use Rattle.slots.specs.declared.Slot.{Slot}
 use Rattle.slots.specs.Slots.{empties, placedTo}
 use Rattle.slots.proofs.Laws.{gained-counts}
 use Rattle.slots.proofs.Walks.{counted-turn, empties-end, Placing, WalksOn, placing-first, placing-turn, placing-last}
 use Rattle.cell.specs.declared.Answered.{Answered}
 use Rattle.cell.specs.declared.Cell.{Cell}
-use Rattle.cell.specs.Limits.{hostAt, withHost, contentAt, clocksNear}
-use Rattle.cell.specs.Events.{answered, cellOf, withSlots, messagesIn, advancedAll}
+use Rattle.cell.specs.CellLimits.{hostAt, withHost, contentAt, clocksNear}
+use Rattle.cell.specs.Events.{answeredWith, cellOf, withSlots, messagesIn, advancedAll}
 use Rattle.cell.proofs.Hosts.{Sized}
-use Rattle.cell.proofs.Limits.{n-of}
+use Rattle.cell.proofs.CellLimits.{n-of}
 use Rattle.change.specs.declared.Change.{Change}
 use Rattle.change.specs.Parts.{hostOf, changeOf, slotsAfter}
 use Rattle.change.proofs.Tables.{Found, target-small, all-refused, all-done, slot-refused, host-refused, change-refused, spread-refused, still, full-refused, committed-quiet, committed-sent}
@@ -56,12 +47,11 @@ counted-few need count k all rest e f (inl b) l = absurd (omega arith)
 counted-few need count k all rest e f (inr b) l = omega (arith, f b)
 
 -- an answer beside a cell whose parts are known
-beside : (x : ℕ) (a : Answered) (c : Cell) → a .settings ≡ c .settings → a .hosts ≡ c .hosts → a .slots ≡ c .slots → answered x (cellOf a) ≡ answered x c
+beside : (x : ℕ) (a : Answered) (c : Cell) → a .settings ≡ c .settings → a .hosts ≡ c .hosts → a .slots ≡ c .slots → answeredWith x (cellOf a) ≡ answeredWith x c
 beside x a c p q r = rw (← p, ← q, ← r)
 
--- the hosts below g are advanced, and none of them refused
 abbrev Inv-loop : tie.InvT-loop
-Inv-loop a₀ s n d hosts₀ g₀ a hosts g = (a ≡ a₀) × (length hosts₀ ≡ 9) × (length hosts ≡ 9) × (n ≡ s .n) × (n ≤ 9) × (g ≤ n) × (hosts ≡ eachHost g (λ h. advanced h d) hosts₀) × (advancesRefusal s hosts₀ d ≡ firstOf (map (λ h. advanceRefusal s h d) (drop g (take n hosts₀))))
+Inv-loop a₀ s n d hosts₀ g₀ a hosts g = (a ≡ a₀) × (n ≡ s .n) × (n ≤ 9) × (length hosts ≡ 9) × Advancing s d hosts₀ hosts g
 
 abbrev μ-loop : tie.MeasureT-loop
 μ-loop a₀ s n d hosts₀ g₀ a hosts g = n - g
@@ -137,16 +127,6 @@ fits : (c : tie.Else8 Inv-loop μ-loop Inv-loop2 μ-loop2 Inv-loop3 μ-loop3) �
     ≤ empties (slotsAfter (cell (c .before .before .before .before .before .before .before .before .before .before .before)) (slot (c .before .before .before .before .before .before .before .before .before .before .before)) (change (c .before .before .before .before .before .before .before .before .before .before .before)))
 fits c = omega (arith, gains (c .before .before .before), c .before .before .before .before .messages-in .ensures, c .before .before .loop2 .inv .2, c .if8 .left)
 
--- in the walk that advances: the host whose turn it is has not moved, and its answer
-unmoved : (c : tie.In-loop Inv-loop μ-loop Inv-loop2 μ-loop2 Inv-loop3 μ-loop3) → getD (c .before .loop .hosts) (c .before .loop .g) blankHost ≡ hostAt (cellOf (c .before .before .before .before .before .before .before .before .args .t1)) (c .before .loop .g)
-unmoved c = ap (λ (hs : List Host). getD hs (c .before .loop .g) blankHost) (c .before .loop .inv .6) ∙ each-above (c .before .loop .g) (λ h. advanced h (c .before .before .before .ticks-of .result)) (c .before .before .before .before .before .before .before .before .args .t1 .hosts) (c .before .loop .g) blankHost (le-refl _)
-
-refuses : (c : tie.After-advance Inv-loop μ-loop Inv-loop2 μ-loop2 Inv-loop3 μ-loop3) → c .advance .result .answer ≡ advanceRefusal (c .before .before .before .before .before .before .before .before .before .before .args .t1 .settings) (hostAt (cellOf (c .before .before .before .before .before .before .before .before .before .before .args .t1)) (c .before .before .before .loop .g)) (c .before .before .before .before .before .ticks-of .result)
-refuses c = ap (λ (x : Stepped). x .answer) (c .advance .ensures) ∙ answer-advance _ _ _ ∙ ap (λ (x : Host). advanceRefusal (c .before .before .before .before .before .before .before .before .before .before .args .t1 .settings) x (c .before .before .before .before .before .ticks-of .result)) (unmoved (c .before .before))
-
-reach : (c : tie.In-loop Inv-loop μ-loop Inv-loop2 μ-loop2 Inv-loop3 μ-loop3) → c .before .before .before .before .before .before .before .before .args .t1 .settings .n ≤ length (c .before .before .before .before .before .before .before .before .args .t1 .hosts)
-reach c = omega (arith, sized (c .before .before .before .before .before .before .before .before) .hosts, numbers (c .before .before .before .before .before .before .before .before) .few)
-
 -- the walk that places, one turn on
 turned : (c : tie.After-turn-of Inv-loop μ-loop Inv-loop2 μ-loop2 Inv-loop3 μ-loop3) → WalksOn (c .before .before .before .before .loop3 .inv .3) (c .turn-of .result)
 turned c =
@@ -155,49 +135,34 @@ turned c =
     rw (c .turn-of .ensures) (placing-turn (l .inv .3) (first-below (l .h) n (l .j) (c .before .before .if9 .taken)) (slot-below (l .h) n (l .j) (c .before .before .if9 .taken)))
 
 loop-holds : tie.Need-loop-holds Inv-loop μ-loop Inv-loop2 μ-loop2 Inv-loop3 μ-loop3
-unfolding eachHost advancesRefusal
-loop-holds c = (refl, sized (c .before .before .before .before .before .before) .hosts, sized (c .before .before .before .before .before .before) .hosts, refl, numbers (c .before .before .before .before .before .before) .few, omega arith, refl, refl)
+loop-holds c =
+    let z = c .before .before .before .before .before .before in
+    (refl, refl, numbers z .few, sized z .hosts, advancing-first _ _ _ (omega (arith, sized z .hosts, numbers z .few)))
 
 returns : tie.Need-returns Inv-loop μ-loop Inv-loop2 μ-loop2 Inv-loop3 μ-loop3
 returns c =
-    let a = cellOf (c .before .before .before .before .before .before .before .before .before .before .before .before .args .t1) in
-    let s = a .settings in
-    let d = c .before .before .before .before .before .before .before .ticks-of .result in
-    let g = c .before .before .before .before .before .loop .g in
-    let r = refuses (c .before .before) in
-    ap (λ (x : Answered). answered (c .before .before .advance .result .answer) (cellOf x)) (c .before .before .before .before .before .loop .inv .0)
-    ∙ all-refused a (sized (c .before .before .before .before .before .before .before .before .before .before .before .before)) (c .before .before .before .before .before .before .before .before .before .before .before .before .pre) (c .before .before .before .before .before .before .before .before .before .before .before .before .args .e) d (sym (c .before .before .before .before .before .before .before .before .before .is-all .ensures) ∙ c .before .before .before .before .before .before .before .before .if1 .taken) (c .before .before .before .before .before .before .before .ticks-of .ensures) _ (c .if2 .taken)
-    (c .before .before .before .before .before .loop .inv .7 ∙ refusals-found s d (a .hosts) (s .n) g (reach (c .before .before .before .before)) (c .before .before .before .before .loop-test .taken) (ne-eqb _ _ (λ q. c .if2 .taken (r ∙ q))) ∙ sym r)
+    let l = c .before .before .before .before .before in
+    let z = l .before .before .before .before .before .before .before in
+    let k = c .before .before .advance in
+    ap (λ (x : Answered). answeredWith (k .result .answer) (cellOf x)) (l .loop .inv .0)
+    ∙ all-refused (cellOf (z .args .t1)) (sized z) (z .pre) (z .args .e) _ (sym (l .before .before .before .before .is-all .ensures) ∙ l .before .before .before .if1 .taken) (l .before .before .ticks-of .ensures) _ (c .if2 .taken)
+    (advancing-refused (l .loop .inv .4) (c .before .before .before .before .loop-test .taken) (k .result) (k .ensures) (c .if2 .taken))
 
 loop-again : tie.Need-loop-again Inv-loop μ-loop Inv-loop2 μ-loop2 Inv-loop3 μ-loop3
 loop-again c =
-    let s = c .before .before .before .before .before .before .before .before .before .before .before .before .before .args .t1 .settings in
-    let d = c .before .before .before .before .before .before .before .before .ticks-of .result in
-    let g = c .before .before .before .before .before .before .loop .g in
-    let h = hostAt (cellOf (c .before .before .before .before .before .before .before .before .before .before .before .before .before .args .t1)) g in
-    let e : advanceRefusal s h d ≡ done = sym (refuses (c .before .before .before)) ∙ c .before .if2 .left in
-    let same : c .before .before .before .advance .result .host ≡ advanced h d =
-    ap (λ (x : Stepped). x .host) (c .before .before .before .advance .ensures ∙ ap (λ (x : Host). advanceOf s x d) (unmoved (c .before .before .before .before .before)) ∙ advance-done s h d e) in (
-      c .before .before .before .before .before .before .loop .inv .0,
-      c .before .before .before .before .before .before .loop .inv .1,
-      length-set (c .before .before .before .before .before .before .loop .hosts) g _ ∙ c .before .before .before .before .before .before .loop .inv .2,
-      refl,
-      c .before .before .before .before .before .before .loop .inv .4,
-      omega arith,
-      rw (c .before .before .before .before .before .before .loop .inv .6, same) (sym (each-next g (λ h. advanced h d) (c .before .before .before .before .before .before .before .before .before .before .before .before .before .args .t1 .hosts) blankHost (omega (arith, reach (c .before .before .before .before .before), c .before .before .before .before .before .loop-test .taken)))),
-      c .before .before .before .before .before .before .loop .inv .7 ∙ refusals-step s d (c .before .before .before .before .before .before .before .before .before .before .before .before .before .args .t1 .hosts) (s .n) g (reach (c .before .before .before .before .before)) (c .before .before .before .before .before .loop-test .taken) e,
-    )
+    let l = c .before .before .before .before .before .before .loop in
+    let k = c .before .before .before .advance in
+    let on = advancing-next (l .inv .4) (c .before .before .before .before .before .loop-test .taken) (k .result) (k .ensures) (c .before .if2 .left) in
+    (l .inv .0, l .inv .1, l .inv .2, length-set (l .hosts) (l .g) _ ∙ l .inv .3, on)
 
 returns-2 : tie.Need-returns-2 Inv-loop μ-loop Inv-loop2 μ-loop2 Inv-loop3 μ-loop3
 unfolding advancedAll
 returns-2 c =
-    let cell = cellOf (c .before .before .before .before .before .before .before .before .args .t1) in
-    let d = c .before .before .before .ticks-of .result in
-    let all : c .before .loop .g ≡ cell .settings .n = omega (arith, c .before .loop .inv .5, c .loop-test .left) in
-    let few : cell .settings .n ≤ length (cell .hosts) = omega (arith, sized (c .before .before .before .before .before .before .before .before) .hosts, numbers (c .before .before .before .before .before .before .before .before) .few) in
-    ap (λ (x : Answered). answered 0 (record { settings = x .settings; hosts = c .before .loop .hosts; slots = x .slots })) (c .before .loop .inv .0)
-    ∙ ap (λ (hs : List Host). answered 0 (record { settings = cell .settings; hosts = hs; slots = cell .slots })) (c .before .loop .inv .6 ∙ ap (λ (k : ℕ). eachHost k (λ h. advanced h d) (cell .hosts)) all)
-    ∙ all-done cell (sized (c .before .before .before .before .before .before .before .before)) (c .before .before .before .before .before .before .before .before .pre) (c .before .before .before .before .before .before .before .before .args .e) d (sym (c .before .before .before .before .before .is-all .ensures) ∙ c .before .before .before .before .if1 .taken) (c .before .before .before .ticks-of .ensures) (c .before .loop .inv .7 ∙ refusals-end (cell .settings) d (cell .hosts) (cell .settings .n) (c .before .loop .g) few (c .loop-test .left))
+    let l = c .before .loop in
+    let z = c .before .before .before .before .before .before .before .before in
+    let last = advancing-last (l .inv .4) (c .loop-test .left) in
+    beside 0 (record { answer = 0; settings = l .a .settings; hosts = l .hosts; slots = l .a .slots }) (advancedAll (cellOf (z .args .t1)) (c .before .before .before .ticks-of .result)) (ap (λ (x : Answered). x .settings) (l .inv .0)) (last .1) (ap (λ (x : Answered). x .slots) (l .inv .0))
+    ∙ all-done (cellOf (z .args .t1)) (sized z) (z .pre) (z .args .e) _ (sym (c .before .before .before .before .before .is-all .ensures) ∙ c .before .before .before .before .if1 .taken) (c .before .before .before .ticks-of .ensures) (last .0)
 
 loop2-again : tie.Need-loop2-again Inv-loop μ-loop Inv-loop2 μ-loop2 Inv-loop3 μ-loop3
 loop2-again c =
@@ -220,7 +185,7 @@ returns-7 c =
 returns-8 : tie.Need-returns-8 Inv-loop μ-loop Inv-loop2 μ-loop2 Inv-loop3 μ-loop3
 returns-8 c =
     let d = (c .before .before .before .before .before .before .before .before .before .before .before .before .before .before) in
-    ap (λ (x : Slot). answered 0 (withSlots (withHost (cell d) (who d) (change d .host)) (set (cell d .slots) (slot d) x))) (c .before .before .slot-after .ensures)
+    ap (λ (x : Slot). answeredWith 0 (withSlots (withHost (cell d) (who d) (change d .host)) (set (cell d .slots) (slot d) x))) (c .before .before .slot-after .ensures)
     ∙ committed-quiet (found d) (slot-in d) (who-in d) (c .before .before .before .before .before .before .before .before .before .before .before .before .if5 .left) (near (c .before .before .before .before .before .before .before .before)) (fits (c .before .before .before)) (c .enum-told .given .1)
 
 loop3-holds : tie.Need-loop3-holds Inv-loop μ-loop Inv-loop2 μ-loop2 Inv-loop3 μ-loop3

@@ -9,7 +9,8 @@ use Rattle.base.proofs.Stores.{sets-append}
 use Rattle.quorum.specs.Sets.{isIn, membersFrom, members}
 use Rattle.quorum.proofs.Laws.{half-set, walk-below, members-none}
 use Rattle.message.specs.Message.{withTarget}
-use Rattle.frame.specs.Writing.{framesIn, partOf}
+use Rattle.frame.specs.Writing.{framesIn}
+use Rattle.frame.specs.Parts.{partOf}
 use Rattle.frame.proofs.Answers.{frames-step}
 use Rattle.frame.proofs.put_set.Statement.{statement}
 use Rattle.frame.proofs.put_set.Tie as tie
@@ -41,26 +42,22 @@ parts c =
     let one = partOf (isIn (a .set) (l .h)) (withTarget (a .f) (l .h)) in
     ap length (frames-step (a .f) (a .set) (l .h) 16 (below c)) ∙ length-append one (framesIn (a .f) (membersFrom (a .set) (l .h + 1) (16 - (l .h + 1))))
 
-loop-holds : tie.Need-loop-holds Inv-loop μ-loop
-loop-holds c = (sym (div-one (c .before .args .set)), (refl, (omega arith, refl)))
-
-with-target-requires : tie.Need-with-target-requires Inv-loop μ-loop
-with-target-requires c κs = search needs
-
-put-if-requires : tie.Need-put-if-requires Inv-loop μ-loop
-put-if-requires c κs =
+pub put-set-spec : {M : Type 1} → statement M
+unfolding framesIn
+put-set-spec =
+    tie.close
+    (tie.spec
+    Inv-loop
+    μ-loop
+    (λ c. (sym (div-one (c .before .args .set)), (refl, (omega arith, refl))))
+    (λ c κs. search needs)
+    (λ c κs.
     let p = c .before .before .before .before .before .pre in
     let w = c .with-target .ensures in
-    (rw w (p .0), (p .1 .0, rw (w, c .before .before .before .loop .inv .0) (omega (arith, parts (c .before .before)))))
-
-add-h : tie.Need-add-h Inv-loop μ-loop
-add-h c = omega (arith, below (c .before .before .before .before .before))
-
-loop-less : tie.Need-loop-less Inv-loop μ-loop
-loop-less c = omega (arith, c .before .before .before .before .before .loop-test .taken)
-
-loop-again : tie.Need-loop-again Inv-loop μ-loop
-loop-again c =
+    record { long = rw w (p .long); room = rw (w, c .before .before .before .loop .inv .0) (omega (arith, parts (c .before .before))) })
+    (λ c. omega (arith, below (c .before .before .before .before .before)))
+    (λ c. omega (arith, c .before .before .before .before .before .loop-test .taken))
+    (λ c.
     let a = c .before .before .before .before .before .before .before .before .args in
     let l = c .before .before .before .before .before .before .loop in
     let p = c .before .before .put-if in
@@ -77,30 +74,10 @@ loop-again c =
           rw (p .ensures .1, at, w, m) (sets-append (l .out) (l .at) one more ∙ ap (sets (l .out) (l .at)) (sym (frames-step (a .f) (a .set) (l .h) 16 (below (c .before .before .before .before .before)))) ∙ l .inv .1 .1 .1),
         ),
       ),
-    )
-
-same-length : tie.Need-same-length Inv-loop μ-loop
-same-length c = c .before .loop .inv .1 .0
-
-returns : tie.Need-returns Inv-loop μ-loop
-unfolding framesIn
-returns c =
+    ))
+    (λ c. c .before .loop .inv .1 .0)
+    (λ c.
     let a = c .before .before .before .args in
     let l = c .before .loop in
     let z = sym (l .inv .0) ∙ c .loop-test .left in
-    rw (members-none (a .set) (l .h) (16 - l .h) z) at (l .inv .1 .1 .1)
-
-pub put-set-spec : {M : Type 1} → statement M
-put-set-spec =
-    tie.close
-    (tie.spec
-    Inv-loop
-    μ-loop
-    loop-holds
-    with-target-requires
-    put-if-requires
-    add-h
-    loop-less
-    loop-again
-    same-length
-    returns)
+    rw (members-none (a .set) (l .h) (16 - l .h) z) at (l .inv .1 .1 .1)))

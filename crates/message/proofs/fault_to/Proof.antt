@@ -3,19 +3,12 @@ use borrow.Author.Needs.{needs}
 use Rattle.message.proofs.fault_to.Statement.{statement}
 use Rattle.message.proofs.fault_to.Tie as tie
 
-is-below-requires : tie.Need-is-below-requires
-is-below-requires c κs = search needs
-
-party-fits-to-requires : tie.Need-party-fits-to-requires
-party-fits-to-requires c κs = search needs
-
-fault-with-requires : tie.Need-fault-with-requires
-fault-with-requires c κs = search needs
-
-returns : tie.Need-returns
-unfolding faultTo
-returns c = rw (c .fault-with .ensures, c .before .party-fits-to .ensures, c .before .before .is-below .ensures)
-
 pub fault-to-spec : {M : Type 1} → statement M
+unfolding faultTo
 fault-to-spec =
-    tie.close (tie.spec is-below-requires party-fits-to-requires fault-with-requires returns)
+    tie.close
+    (tie.spec
+    (λ c κs. search needs)
+    (λ c κs. search needs)
+    (λ c κs. search needs)
+    (λ c. rw (c .fault-with .ensures, c .before .party-fits-to .ensures, c .before .before .is-below .ensures)))

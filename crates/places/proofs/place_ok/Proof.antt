@@ -1,5 +1,6 @@
 use borrow.Author.Needs.{needs}
 use borrow.Author.Tests.{lt-ltb, le-ltb}
+use Rattle.base.specs.Lists.{allOf}
 use Rattle.message.specs.Message.{lastTick}
 use Rattle.host.specs.Steps.{lastWait}
 use Rattle.places.specs.Places.{placeOk}
@@ -7,7 +8,7 @@ use Rattle.places.proofs.place_ok.Statement.{statement}
 use Rattle.places.proofs.place_ok.Tie as tie
 
 pub place-ok-spec : {M : Type 1} → statement M
-unfolding placeOk lastTick lastWait
+unfolding placeOk lastTick lastWait allOf
 place-ok-spec =
     tie.close
     (tie.spec

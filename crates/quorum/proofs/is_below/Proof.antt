@@ -6,14 +6,9 @@ use borrow.Author.Needs.{needs}
 use Rattle.quorum.proofs.is_below.Statement.{statement}
 use Rattle.quorum.proofs.is_below.Tie as tie
 
-returns : tie.Need-returns
-returns c = rw (lt-ltb (c .before .args .set) (2 ^ c .before .args .n) (omega (arith, pow-mono {i = 16} {j = c .before .args .n} (c .if1 .taken))))
-
-single-of-requires : tie.Need-single-of-requires
-single-of-requires c κs = search needs
-
-returns-2 : tie.Need-returns-2
-returns-2 c = rw (c .single-of .ensures)
-
 pub is-below-spec : {M : Type 1} → statement M
-is-below-spec = tie.close (tie.spec returns single-of-requires returns-2)
+is-below-spec =
+    tie.close
+    (tie.spec
+    (λ c. rw (lt-ltb (c .before .args .set) (2 ^ c .before .args .n) (omega (arith, pow-mono {i = 16} {j = c .before .args .n} (c .if1 .taken)))))
+    (λ c κs. search needs) (λ c. rw (c .single-of .ensures)))

@@ -6,17 +6,11 @@ use borrow.Author.Needs.{needs}
 use Rattle.quorum.proofs.is_only.Statement.{statement}
 use Rattle.quorum.proofs.is_only.Tie as tie
 
-returns : tie.Need-returns
-returns c = rw (eq-eqb _ _ (c .if1 .taken))
-
 returns-2 : tie.Need-returns-2
 returns-2 c = rw (ne-eqb _ _ (c .before .if1 .left), ne-eqb (c .before .before .args .set) (2 ^ c .before .before .args .host) (λ e. omega (arith, pow-mono {i = 16} {j = c .before .before .args .host} (c .if2 .taken))))
 
-single-of-requires : tie.Need-single-of-requires
-single-of-requires c κs = search needs
-
-returns-3 : tie.Need-returns-3
-returns-3 c = rw (c .single-of .ensures, ne-eqb _ _ (c .before .before .if1 .left))
-
 pub is-only-spec : {M : Type 1} → statement M
-is-only-spec = tie.close (tie.spec returns returns-2 single-of-requires returns-3)
+is-only-spec =
+    tie.close
+    (tie.spec (λ c. rw (eq-eqb _ _ (c .if1 .taken))) returns-2 (λ c κs. search needs)
+    (λ c. rw (c .single-of .ensures, ne-eqb _ _ (c .before .before .if1 .left))))

@@ -4,17 +4,8 @@ use borrow.Author.Needs.{needs}
 use Rattle.quorum.proofs.others_of.Statement.{statement}
 use Rattle.quorum.proofs.others_of.Tie as tie
 
-everyone-of-requires : tie.Need-everyone-of-requires
-everyone-of-requires c κs = search needs
-
-single-of-requires : tie.Need-single-of-requires
-single-of-requires c κs = search needs
-
 sub-result : tie.Need-sub-result
 sub-result c = rw (c .single-of .ensures, c .before .everyone-of .ensures) (omega (arith, pow-lt {i = c .before .before .args .host} {j = c .before .before .args .n} (c .before .before .pre .1)))
 
-returns : tie.Need-returns
-returns c = search needs
-
 pub others-of-spec : {M : Type 1} → statement M
-others-of-spec = tie.close (tie.spec everyone-of-requires single-of-requires sub-result returns)
+others-of-spec = tie.close (tie.spec (λ c κs. search needs) (λ c κs. search needs) sub-result (λ c. search needs))

@@ -3,22 +3,9 @@ use borrow.Author.Needs.{needs}
 use Rattle.rules.proofs.is_forbidden.Statement.{statement}
 use Rattle.rules.proofs.is_forbidden.Tie as tie
 
-enum-known-p : tie.Need-enum-known-p
-enum-known-p c = search needs
-
-above-requires : tie.Need-above-requires
-above-requires c κs = search needs
-
-enum-told : tie.Need-enum-told
-enum-told c = search needs
-
-returns : tie.Need-returns
-unfolding isForbidden
-returns c = rw (c .above .ensures, c .before .before .p .given .1)
-
-returns-2 : tie.Need-returns-2
-unfolding isForbidden
-returns-2 c = rw (c .enum-told .given .1)
-
 pub is-forbidden-spec : {M : Type 1} → statement M
-is-forbidden-spec = tie.close (tie.spec enum-known-p above-requires enum-told returns returns-2)
+unfolding isForbidden
+is-forbidden-spec =
+    tie.close
+    (tie.spec (λ c. search needs) (λ c κs. search needs) (λ c. search needs)
+    (λ c. rw (c .is-above .ensures, c .before .before .p .given .1)) (λ c. rw (c .enum-told .given .1)))

@@ -1,11 +1,11 @@
 use borrow.Author.Needs.{needs}
 use native.Mathlib.Numerals.{add-one}
-use Rattle.slots.specs.Parts.{counted}
+use Rattle.slots.specs.Parts.{countedWith}
 use Rattle.slots.proofs.counted_with.Statement.{statement}
 use Rattle.slots.proofs.counted_with.Tie as tie
 
 pub counted-with-spec : {M : Type 1} → statement M
-unfolding counted
+unfolding countedWith
 counted-with-spec =
     tie.close
     (tie.spec

@@ -1,10 +1,10 @@
 use borrow.Author.Needs.{needs}
-use Rattle.slots.specs.Parts.{gained}
+use Rattle.slots.specs.Parts.{gainedBy}
 use Rattle.slots.proofs.gained_by.Statement.{statement}
 use Rattle.slots.proofs.gained_by.Tie as tie
 
 pub gained-by-spec : {M : Type 1} → statement M
-unfolding gained
+unfolding gainedBy
 gained-by-spec =
     tie.close
     (tie.spec

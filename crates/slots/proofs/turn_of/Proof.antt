@@ -3,17 +3,16 @@ use mathlib.Core.Bool.{true, false}
 use mathlib.Core.Path.{_≡_, sym, _∙_}
 use borrow.Author.Tests.{not-true, not-false}
 use Rattle.quorum.specs.Sets.{isIn}
-use Rattle.message.specs.Message.{messageTo}
 use Rattle.slots.specs.Slots.{isEmpty}
-use Rattle.slots.specs.Parts.{turn}
+use Rattle.slots.specs.Parts.{turnOf}
 use Rattle.slots.proofs.turn_of.Statement.{statement}
 use Rattle.slots.proofs.turn_of.Tie as tie
 
 passed-over : (c : tie.Then1) → isIn (c .before .before .args .receivers) (c .before .before .args .h) ≡ false
-passed-over c = sym (c .before .has .ensures) ∙ not-true (c .before .has .result) (c .if1 .taken)
+passed-over c = sym (c .before .is-in .ensures) ∙ not-true (c .before .is-in .result) (c .if1 .taken)
 
 receives : (c : tie.Else1) → isIn (c .before .before .args .receivers) (c .before .before .args .h) ≡ true
-receives c = sym (c .before .has .ensures) ∙ not-false (c .before .has .result) (c .if1 .left)
+receives c = sym (c .before .is-in .ensures) ∙ not-false (c .before .is-in .result) (c .if1 .left)
 
 taken : (c : tie.Then2) → isEmpty (c .before .before .before .before .args .held .content) ≡ false
 taken c = sym (c .before .is-empty .ensures) ∙ not-true (c .before .is-empty .result) (c .if2 .taken)
@@ -22,7 +21,7 @@ free : (c : tie.Else2) → isEmpty (c .before .before .before .before .args .hel
 free c = sym (c .before .is-empty .ensures) ∙ not-false (c .before .is-empty .result) (c .if2 .left)
 
 pub turn-of-spec : {M : Type 1} → statement M
-unfolding turn messageTo
+unfolding turnOf
 turn-of-spec =
     tie.close
     (tie.spec
@@ -33,8 +32,6 @@ turn-of-spec =
     (λ c. search needs)
     (λ c. rw (receives (c .before .before), taken c))
     (λ c κs. search needs)
-    (λ c κs. search needs)
-    (λ c κs. search needs)
     (λ c. search needs)
     (λ c. search needs)
-    (λ c. rw (receives (c .before .before .before .before .before), free (c .before .before .before), c .message-of .ensures, c .before .with-target .ensures, c .before .before .numbers-of .ensures)))
+    (λ c. rw (receives (c .before .before .before), free (c .before), c .addressed-to .ensures)))

@@ -1,25 +1,11 @@
-use Rattle.message.specs.Message.{lastEnd}
-use Rattle.state.specs.Limits.{namedOk}
+use Rattle.state.specs.StateLimits.{namedOk}
 use borrow.Author.Needs.{needs}
 use Rattle.state.proofs.named_ok.Statement.{statement}
 use Rattle.state.proofs.named_ok.Tie as tie
 
-enum-told : tie.Need-enum-told
-enum-told c = search needs
-
-enum-known-m : tie.Need-enum-known-m
-enum-known-m c = search needs
-
-ballot-ok-requires : tie.Need-ballot-ok-requires
-ballot-ok-requires c κs = search needs
-
-returns : tie.Need-returns
-unfolding namedOk lastEnd
-returns c = rw (c .enum-told .given .1)
-
-returns-2 : tie.Need-returns-2
-unfolding namedOk lastEnd
-returns-2 c = rw (c .before .before .ballot-ok .ensures, c .before .before .before .before .m .given .1)
-
 pub named-ok-spec : {M : Type 1} → statement M
-named-ok-spec = tie.close (tie.spec enum-told enum-known-m ballot-ok-requires returns returns-2)
+unfolding namedOk
+named-ok-spec =
+    tie.close
+    (tie.spec (λ c. search needs) (λ c. search needs) (λ c κs. search needs) (λ c. rw (c .enum-told .given .1))
+    (λ c. rw (c .lease-ok .ensures, c .before .before .m .given .1)))

@@ -4,11 +4,9 @@ use Rattle.wire.proofs.Laws.{number-one}
 use Rattle.wire.proofs.byte.Statement.{statement}
 use Rattle.wire.proofs.byte.Tie as tie
 
-shared-slice-read-result : tie.Need-shared-slice-read-result
-shared-slice-read-result c = search needs
-
-returns : tie.Need-returns
-returns c = sym (number-one (c .before .args .s .now) (c .before .args .at))
-
 pub byte-spec : {M : Type 1} → statement M
-byte-spec = tie.close (tie.spec shared-slice-read-result returns)
+byte-spec =
+    tie.close
+    (tie.spec
+    (λ c. search needs)
+    (λ c. sym (number-one (c .before .args .s .now) (c .before .args .at))))

@@ -8,8 +8,6 @@ use lib.Seq.{sets}
 use Rattle.wire.specs.Wire.{le}
 use Rattle.wire.proofs.put.Statement.{statement}
 use Rattle.wire.proofs.put.Tie as tie
-use Rattle.wire.proofs.put.Reads as reads
-use Rattle.wire.proofs.put.Lts as lts
 
 -- what is left to store, stored now, makes what the whole makes
 abbrev Inv-loop : tie.InvT-loop
@@ -27,55 +25,28 @@ step out at w i rest h =
     let f : at + (i + 1) ≡ suc (at + i) = omega arith in
     rw (e, f)
 
-loop-holds : tie.Need-loop-holds Inv-loop μ-loop
-loop-holds c =
-    let e : c .args .at + 0 ≡ c .args .at = omega arith in
-    let f : c .args .w - 0 ≡ c .args .w = omega arith in
-    (omega arith, (refl, (cc)))
-
-cast-out : tie.Need-cast-out Inv-loop μ-loop
-cast-out c = search needs
-
-add-out : tie.Need-add-out Inv-loop μ-loop
-add-out c = search needs
-
-slice-write-out : tie.Need-slice-write-out Inv-loop μ-loop
-slice-write-out c = search needs
-
-add-i : tie.Need-add-i Inv-loop μ-loop
-add-i c = search needs
-
-loop-less : tie.Need-loop-less Inv-loop μ-loop
-loop-less c = search needs
-
-loop-again : tie.Need-loop-again Inv-loop μ-loop
-loop-again c =
-    let l = c .before .loop in
-    let a = c .before .before .args in
-    (omega arith, (simp length-set (l .inv .1 .0), sym (step (l .out) (a .at) (a .w) (l .i) (l .rest) (omega arith)) ∙ l .inv .1 .1))
-
-same-length : tie.Need-same-length Inv-loop μ-loop
-same-length c = c .before .loop .inv .1 .0
-
-returns : tie.Need-returns Inv-loop μ-loop
-unfolding le
-returns c =
-    let l = c .before .loop in
-    let e : c .before .before .args .w - l .i ≡ 0 = omega arith in
-    rw e at (l .inv .1 .1)
-
 pub put-spec : {M : Type 1} → statement M
+unfolding le
 put-spec =
     tie.close
     (tie.spec
     Inv-loop
     μ-loop
-    loop-holds
-    cast-out
-    add-out
-    slice-write-out
-    add-i
-    loop-less
-    loop-again
-    same-length
-    returns)
+    (λ c.
+    let e : c .args .at + 0 ≡ c .args .at = omega arith in
+    let f : c .args .w - 0 ≡ c .args .w = omega arith in
+    (omega arith, (refl, (cc))))
+    (λ c. search needs)
+    (λ c. search needs)
+    (λ c. search needs)
+    (λ c. search needs)
+    (λ c. search needs)
+    (λ c.
+    let l = c .before .loop in
+    let a = c .before .before .args in
+    (omega arith, (simp length-set (l .inv .1 .0), sym (step (l .out) (a .at) (a .w) (l .i) (l .rest) (omega arith)) ∙ l .inv .1 .1)))
+    (λ c. c .before .loop .inv .1 .0)
+    (λ c.
+    let l = c .before .loop in
+    let e : c .before .before .args .w - l .i ≡ 0 = omega arith in
+    rw e at (l .inv .1 .1)))

@@ -1,36 +1,30 @@
+use mathlib.Core.Path.{_≡_}
+use mathlib.Core.Bool.{true}
 use borrow.Author.Tests.{not-false, not-true}
+use Rattle.base.proofs.Tests.{told}
+use Rattle.message.specs.Message.{isSame}
+use Rattle.rules.specs.Rules.{countsReply}
 use Rattle.host.specs.Steps.{onVote}
 use borrow.Author.Needs.{needs}
 use Rattle.host.proofs.Host.on_vote.Statement.{statement}
 use Rattle.host.proofs.Host.on_vote.Tie as tie
 
-acts-on-requires : tie.Need-acts-on-requires
-acts-on-requires c κs = search needs
+-- what each test that is passed tells
+same-ballot : (c : tie.Else1) → isSame (c .before .before .args .p .ballot) (c .before .before .args .m .ballot) ≡ true
+same-ballot c = told (c .before .is-same .ensures) (not-false (c .before .is-same .result) (c .if1 .left))
 
-with-round-requires : tie.Need-with-round-requires
-with-round-requires c κs = search needs
-
-quiet-with-requires : tie.Need-quiet-with-requires
-quiet-with-requires c κs = search needs
-
-returns : tie.Need-returns
-unfolding onVote
-returns c = rw (c .quiet-with .ensures, c .before .with-round .ensures, ← c .before .before .before .acts-on .ensures, not-true (c .before .before .before .acts-on .result) (c .before .before .if1 .taken))
-
-chosen-with-requires : tie.Need-chosen-with-requires
-chosen-with-requires c κs = search needs
-
-returns-2 : tie.Need-returns-2
-unfolding onVote
-returns-2 c = rw (c .chosen-with .ensures, ← c .before .before .acts-on .ensures, not-false (c .before .before .acts-on .result) (c .before .if1 .left))
+first : (c : tie.Else2) → countsReply (c .before .before .before .before .args .p .replied) (c .before .before .before .before .args .m .sender) ≡ true
+first c = told (c .before .counts-reply .ensures) (not-false (c .before .counts-reply .result) (c .if2 .left))
 
 pub on-vote-spec : {M : Type 1} → statement M
+unfolding onVote
 on-vote-spec =
     tie.close
-    (tie.spec
-    acts-on-requires
-    with-round-requires
-    quiet-with-requires
-    returns
-    chosen-with-requires
-    returns-2)
+    (tie.spec (λ c κs. search needs) (λ c κs. search needs)
+    (λ c. rw (c .quiet-with .ensures, ← c .before .before .is-same .ensures, not-true (c .before .before .is-same .result) (c .before .if1 .taken)))
+    (λ c κs. search needs) (λ c κs. search needs)
+    (λ c. rw (c .quiet-with2 .ensures, same-ballot (c .before .before .before), ← c .before .before .counts-reply .ensures, not-true (c .before .before .counts-reply .result) (c .before .if2 .taken)))
+    (λ c κs. search needs) (λ c κs. search needs)
+    (λ c.
+    let d = c .before .before in
+    rw (c .on-counted-vote .ensures, c .before .proposing-after .ensures, same-ballot (d .before .before), first d)))

@@ -1,0 +1,12 @@
+-- What the code that opens a cell supposes behind opening's refusals. No claim rests on it. Assumes nothing.
+use mathlib.Core.Path.{_≡_}
+use mathlib.Core.Bool.{true}
+use Prim.Native.Nat.{ℕ, _≤_}
+use Rattle.message.specs.Message.{lastTick}
+use Rattle.state.specs.declared.Settings.{Settings}
+use Rattle.state.specs.StateLimits.{settingsOk}
+
+-- opening refuses nothing: the settings and the clock are within their limits
+pub record Opens (s : Settings) (clock : ℕ) : Type 0 where
+  pub settings : settingsOk s ≡ true
+  pub early : clock ≤ lastTick

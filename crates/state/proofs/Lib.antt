@@ -1,0 +1,3 @@
+pub mod StateLimits
+pub mod Blank
+pub mod RulesKeep
