@@ -7,7 +7,7 @@ use Rattle.message.specs.Message.{targetOf}
 use Rattle.host.specs.declared.Host.{Host}
 use Rattle.host.specs.declared.Stepped.{Stepped}
 use Rattle.host.specs.Steps.{advancedHost, restartedHost}
-use Rattle.host.proofs.Outcomes.{Stays, stays-start, stays-delivery}
+use Rattle.host.proofs.Outcomes.{begins, gets, Stays, stays-step}
 use Rattle.slots.specs.declared.Slot.{Slot}
 use Rattle.slots.specs.declared.Content.{Content}
 use Rattle.cell.specs.declared.Cell.{Cell}
@@ -42,7 +42,7 @@ step-rises c h ss step k y = one-rises c h (step .host) k (omega (arith, y .cloc
 deliver-rises : (c : Cell) (i : ℕ) (t : Content) (k : ℕ) → hostAt c k .clock ≤ hostAt (delivered c i t) k .clock
 unfolding delivered
 deliver-rises c i Content.Empty k = omega arith
-deliver-rises c i (Content.One m) k = step-rises c (targetOf m) _ (deliverStep c m) k (stays-delivery (c .settings) (hostAt c (targetOf m)) m)
+deliver-rises c i (Content.One m) k = step-rises c (targetOf m) _ (deliverStep c m) k (stays-step (c .settings) (hostAt c (targetOf m)) (gets m))
 
 repeat-rises : (c : Cell) (t : Content) (k : ℕ) → hostAt c k .clock ≤ hostAt (repeated c t) k .clock
 unfolding repeated
@@ -53,7 +53,7 @@ after-rises : (c : Cell) (e : Event) (k : ℕ) → Sound c → hostAt c k .clock
 unfolding afterOf advancedOne advancedHost restartedHost
 after-rises c (AdvanceAll d) k o = all-rises c d k o
 after-rises c (AdvanceOne h d) k o = one-rises c h (advancedHost (hostAt c h) d) k (omega arith)
-after-rises c (Start h d) k o = step-rises c h (c .slots) (startStep c h d) k (stays-start (c .settings) (hostAt c h) d)
+after-rises c (Start h d) k o = step-rises c h (c .slots) (startStep c h d) k (stays-step (c .settings) (hostAt c h) (begins d))
 after-rises c (Deliver i) k o = deliver-rises c i (contentAt c i) k
 after-rises c (Lose i) k o = omega arith
 after-rises c (Repeat i) k o = repeat-rises c (contentAt c i) k

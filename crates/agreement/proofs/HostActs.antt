@@ -16,8 +16,9 @@ use Rattle.message.specs.declared.KeepersEnd.{KeepersEnd}
 use Rattle.message.specs.declared.Lease.{Lease}
 use Rattle.message.specs.declared.Head.{Head}
 use Rattle.message.specs.declared.Message.{Message}
-use Rattle.message.specs.declared.Message.the-variants.{ProposeRequest, ProposeResponse}
+use Rattle.message.specs.declared.Message.the-variants.{ProposeResponse}
 use Rattle.message.specs.Message.{numbersOf}
+use Rattle.message.specs.Faults.{faultOf}
 use Rattle.message.proofs.Laws.{fault-passed}
 use Rattle.rules.specs.declared.Promised.{Promised}
 use Rattle.rules.specs.declared.Accepted.{Accepted}
@@ -25,7 +26,7 @@ use Rattle.rules.specs.declared.LastBallot.{LastBallot}
 use Rattle.rules.specs.declared.Named.{Named}
 use Rattle.rules.specs.declared.Holder.{Holder}
 use Rattle.rules.specs.declared.Value.{Value}
-use Rattle.rules.specs.Rules.{isFresh, mayPromise, actsOn, ownEnd, mayAccept, isNamable, namedBy, waitEnd}
+use Rattle.rules.specs.Rules.{isFresh, mayPromise, actsOn, ownEnd, mayAccept, isNamable, namedBy}
 use Rattle.rules.proofs.Laws as R
 use Rattle.state.specs.declared.Settings.{Settings}
 use Rattle.state.specs.declared.Asking.{Asking}
@@ -34,12 +35,12 @@ use Rattle.state.specs.declared.Round.{Round}
 use Rattle.state.specs.StateLimits.{acceptedOk, promisedOk, sizesOf}
 use Rattle.host.specs.declared.Host.{Host}
 use Rattle.host.specs.declared.Stepped.{Stepped}
-use Rattle.host.specs.Steps.{hostOk, quietWith, sendingWith, withRound, withNamed, headFrom, restartedHost, startRefusal, onStart, responseWith, askingAfter, proposedValue, leaseOf, proposingAfter, holderOf, learnedHolder, onDelivery}
+use Rattle.host.specs.Steps.{quietWith, sendingWith, withRound, withNamed, headFrom, restartedHost, startRefusal, onStart, responseWith, askingAfter, proposedValue, leaseOf, proposingAfter, holderOf, learnedHolder}
 use Rattle.state.proofs.StateLimits.{settings-in, ballot-in, accepted-in, state-in}
-use Rattle.host.proofs.HostLimits.{HostIn, host-in}
-use Rattle.host.proofs.Refused.{start-in}
-use Rattle.host.proofs.Outcomes.{Reply, empty, lease, Heard, Voted, Chosen, Outcome, nothing, begun, promised, heard, proposed, gaveUp, accepted, countedVote, named, namedAlone, told, outcome, proposes, naming, news}
-use Rattle.host.proofs.Within.{Passes, reply-in, asking-held, counted-in, voted-in}
+use Rattle.host.proofs.HostLimits.{HostIn}
+use Rattle.host.proofs.Refusals.{start-in}
+use Rattle.host.proofs.Outcomes.{Reply, empty, lease, Cause, begins, gets, stepOn, proposal, Heard, Voted, Chosen, Outcome, nothing, begun, promised, heard, proposed, gaveUp, accepted, countedVote, named, namedAlone, told, outcome, proposes, naming, news}
+use Rattle.host.proofs.Within.{reply-in, asking-held, counted-in, voted-in}
 use Rattle.theory.specs.Ballots as N
 use Rattle.theory.specs.Model as M
 use Rattle.theory.specs.Model.{World, Choice}
@@ -109,8 +110,8 @@ majority-fits n before after l e = record { fits = ltb-true after (2 ^ n) l; mos
 
 module _ (s : Settings) (h : Host) {w : World (setup s)} (e : Stands s w (h .number) h) where
   pub acts-restart : Acted s w (h .number) (quietWith (restartedHost s h))
-  unfolding restartedHost waitEnd
-  acts-restart = acted-once s e (quietWith (restartedHost s h)) none M.restart refl tt
+  unfolding restartedHost
+  acts-restart = acted-once s e (quietWith (restartedHost s h)) none (rw (R.wait-is (h .clock) (s .longest) (s .spread)) M.restart) refl tt
 
   gives-up : Acted s w (h .number) (quietWith (withRound h Round.Idle))
   gives-up = acted-once s e (quietWith (withRound h Round.Idle)) none M.giveUp refl tt
@@ -130,7 +131,7 @@ module _ (s : Settings) (h : Host) {w : World (setup s)} (e : Stands s w (h .num
 
   -- a majority has replied to h
   proposes-now : (a : Asking) → h .state .round ≡ Round.Asking a → a .ballot .host < 16 → Majority (s .n) (a .replied)
-      → Acted s w (h .number) (sendingWith (withRound h (Round.Proposing (proposes s h (Passes s) a))) (ProposeRequest (record { head = headFrom h (a .ballot); owner = proposedValue s h a .owner; end = proposedValue s h a .end })) 0)
+      → Acted s w (h .number) (sendingWith (withRound h (Round.Proposing (proposes s h a))) (proposal s h a) 0)
   proposes-now a z low j =
       acted-once s e _ (some _)
       (M.propose (code (a .ballot)) (a .duration) _ _ (a .replied) 0 (asLease (a .kept)) (ap (asRound s) z) j
@@ -146,27 +147,28 @@ module _ (s : Settings) (h : Host) {w : World (setup s)} (e : Stands s w (h .num
   abbrev k : Holder
   k = holderOf s p
 
-  tells : Acted s w (h .number) (sendingWith h (news s h (Passes s) k) 0)
+  tells : Acted s w (h .number) (sendingWith h (news s h k) 0)
   tells =
-      acted-once s e _ (some (asMessage (news s h (Passes s) k)))
+      acted-once s e _ (some (asMessage (news s h k)))
       (M.tell (code (p .ballot)) (p .owner) (p .end .0) (k .end .0) (p .replied) (ap (asRound s) z) j (sym (R.namable (h .clock) (s .spread) (p .end) t .1))) refl with-new
 
-  names-idle : Acted s (tells .now) (h .number) (quietWith (naming s h (Passes s) p))
+  names-idle : Acted s (tells .now) (h .number) (quietWith (naming s h p))
   names-idle =
       let a = names s h (tells .stands) k (tells .sent) (R.namable (h .clock) (s .spread) (p .end) t .0) refl (R.naming k (h .state .named)) in
       acted-then s a (gives-up s (withNamed h (h .state .round) (namedBy (h .state .named) k)) (a .stands))
 
-  names-alone : Acted s w (h .number) (quietWith (naming s h (Passes s) p))
+  names-alone : Acted s w (h .number) (quietWith (naming s h p))
   names-alone = acted-then s tells names-idle
 
-  names-and-tells : (set : ℕ) → Acted s w (h .number) (sendingWith (naming s h (Passes s) p) (news s h (Passes s) k) set)
+  names-and-tells : (set : ℕ) → Acted s w (h .number) (sendingWith (naming s h p) (news s h k) set)
   names-and-tells set = acted-then s tells (acted-then s names-idle (rested s _ (names-idle .stands) (names-idle .kept _ (tells .sent))))
 
 -- ---- every outcome
 
--- what is known of a message that is delivered in w
-abbrev pub Delivered : (s : Settings) → World (setup s) → Message → Type 0
-Delivered s w m = Passes s m × M.Sent w (asMessage m)
+-- what is known of a start that is not refused, or of a message that is delivered in w
+abbrev pub Caused : (s : Settings) → Host → World (setup s) → Cause → Type 0
+Caused s h w (begins d) = startRefusal s h d ≡ done
+Caused s h w (gets m) = (faultOf (sizesOf s) (numbersOf m) ≡ done) × M.Sent w (asMessage m)
 
 module _ (s : Settings) (h : Host) (i : HostIn s h) {w : World (setup s)} (e : Stands s w (h .number) h) where
   few : s .n ≤ 9
@@ -175,7 +177,7 @@ module _ (s : Settings) (h : Host) (i : HostIn s h) {w : World (setup s)} (e : S
   may-promise : promisedOk (s .n) (h .state .promised) ≡ true
   may-promise = state-in s (h .number) (h .state) (i .state) .promised
 
-  hears : (a : Asking) (d : Head) (reply : Accepted) → Heard s h (Delivered s w) a d reply → Acted s w (h .number) (quietWith (withRound h (Round.Asking (askingAfter a (d .sender) reply))))
+  hears : (a : Asking) (d : Head) (reply : Accepted) → Heard s h (Caused s h w) a d reply → Acted s w (h .number) (quietWith (withRound h (Round.Asking (askingAfter a (d .sender) reply))))
   unfolding askingAfter
   hears a d reply x =
       let more = higher (s .n) few (asking-held s h i a (x .round) .kept) (reply-in s (x .is) (x .got .0) .1) (R.higher-kept (a .kept) reply) in
@@ -183,17 +185,17 @@ module _ (s : Settings) (h : Host) (i : HostIn s h) {w : World (setup s)} (e : S
       (M.hear (code (a .ballot)) (a .duration) (a .replied) _ (asLease (a .kept)) (asLease reply) _ (d .sender) (ap (asRound s) (x .round))
       (rw (same-code (a .ballot) (d .ballot) (x .same), ← reply-is (x .is)) (x .got .1)) (one-more (a .replied) (d .sender)) (more .0) (more .1)) refl tt
 
-  counts-vote : (p : Proposing) (d : Head) → Voted s h (Delivered s w) p d → Acted s w (h .number) (quietWith (withRound h (Round.Proposing (proposingAfter p (d .sender)))))
+  counts-vote : (p : Proposing) (d : Head) → Voted s h (Caused s h w) p d → Acted s w (h .number) (quietWith (withRound h (Round.Proposing (proposingAfter p (d .sender)))))
   unfolding proposingAfter
   counts-vote p d x =
       acted-once s e _ none
       (M.count (code (p .ballot)) (p .owner) (p .end .0) (p .replied) _ (d .sender) (ap (asRound s) (x .round)) (rw (same-code (p .ballot) (d .ballot) (x .same)) (x .got .1)) (one-more (p .replied) (d .sender))) refl tt
 
-  voted-majority : (p : Proposing) (d : Head) → Chosen s h (Delivered s w) p d → Majority (s .n) (proposingAfter p (d .sender) .replied)
+  voted-majority : (p : Proposing) (d : Head) → Chosen s h (Caused s h w) p d → Majority (s .n) (proposingAfter p (d .sender) .replied)
   unfolding numbersOf
   voted-majority p d x = majority-fits (s .n) (p .replied) _ (voted-in s h i p d (x .vote .round) (fault-passed (sizesOf s) (numbersOf (ProposeResponse d)) (x .vote .got .0) .sender) .replied) (x .reaches)
 
-  pub acts-by : {t : Stepped} → Outcome s h (Delivered s w) t → Acted s w (h .number) t
+  acts-by : {t : Stepped} → Outcome s h (Caused s h w) t → Acted s w (h .number) t
   unfolding onStart
   acts-by nothing = rested s (quietWith h) e tt
   acts-by (begun d r) =
@@ -224,8 +226,6 @@ module _ (s : Settings) (h : Host) (i : HostIn s h) {w : World (setup s)} (e : S
       acted-then s a (names-alone s (withRound h (Round.Proposing (proposingAfter p (d .sender)))) (a .stands) (proposingAfter p (d .sender)) refl (voted-majority p d x) (x .namable))
   acts-by (told m g t) = names s h e (learnedHolder m) (g .1) (leb-false (m .end .0) (h .clock) t) refl (R.naming (learnedHolder m) (h .state .named))
 
-pub acts-start : (s : Settings) (h : Host) {w : World (setup s)} → Stands s w (h .number) h → (d : ℕ) → startRefusal s h d ≡ done → Acted s w (h .number) (onStart s h d)
-acts-start s h e d r = acts-by s h (start-in s h d r .host) e (begun d r)
-
-pub acts-delivery : (s : Settings) (h : Host) {w : World (setup s)} → Stands s w (h .number) h → (m : Message) → hostOk s h ≡ true → Delivered s w m → Acted s w (h .number) (onDelivery s h m)
-acts-delivery s h {w} e m g k = acts-by s h (host-in s h g) e (outcome s h (Delivered s w) m k)
+-- every step that is caused is some acts
+pub acts-step : (s : Settings) (h : Host) {w : World (setup s)} → Stands s w (h .number) h → (c : Cause) → HostIn s h → Caused s h w c → Acted s w (h .number) (stepOn s h c)
+acts-step s h {w} e c i k = acts-by s h i e (outcome s h (Caused s h w) c k)

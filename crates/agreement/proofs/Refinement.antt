@@ -17,13 +17,14 @@ use Rattle.message.specs.Message.{targetOf}
 use Rattle.message.proofs.Laws.{target-in}
 use Rattle.rules.specs.declared.Accepted.{Accepted}
 use Rattle.rules.specs.declared.Named.{Named}
-use Rattle.rules.specs.Rules.{waitEnd}
-use Rattle.rules.proofs.Laws.{LeaseAged, empty, over, live, lease-aged, HolderAged, nobody, dropped, stays, holder-aged}
+use Rattle.rules.proofs.Laws.{wait-is, LeaseAged, empty, over, live, lease-aged, HolderAged, nobody, dropped, stays, holder-aged}
 use Rattle.state.specs.declared.Settings.{Settings}
 use Rattle.state.specs.Ageing.{agedAt}
 use Rattle.state.specs.StateLimits.{settingsOk, sizesOf}
 use Rattle.host.specs.declared.Host.{Host}
 use Rattle.host.specs.declared.Stepped.{Stepped}
+use Rattle.host.proofs.HostLimits.{host-in}
+use Rattle.host.proofs.Outcomes.{begins, gets}
 use Rattle.host.specs.Steps.{quietWith, advanceRefusal, advancedHost, restartedHost, startRefusal}
 use Rattle.state.proofs.StateLimits.{SettingsIn, settings-in}
 use Rattle.places.specs.Places.{unwaited, newHost}
@@ -46,7 +47,7 @@ use Rattle.theory.specs.Model as M
 use Rattle.theory.specs.Model.{World, Aged, aged, age, Reach, here, then}
 use Rattle.theory.proofs.Ballots.{le-or-lt}
 use Rattle.agreement.proofs.Translation.{asLease, asHolder, asMessage, message-to, setup, asHost, Stands, Acted, reach-then}
-use Rattle.agreement.proofs.HostActs.{acts-restart, acts-start, acts-delivery}
+use Rattle.agreement.proofs.HostActs.{acts-restart, acts-step}
 use Rattle.cell.proofs.StaysWithin.{Sound, host-passed, by-opening, opened-at, kept-event}
 
 -- the message is sent in w
@@ -224,7 +225,7 @@ module _ {c : Cell} {w : World (setup (c .settings))} (x : Explained (c .setting
   after-start h d e =
       let p1 = host-passed c h _ e in
       let p2 = first-passed (startRefusal (c .settings) (hostAt c h) d) _ (p1 .1) in
-      after-step h (p1 .0) (c .slots) (x .messages) (startStep c h d) (acts-start (c .settings) (hostAt c h) (stands h (p1 .0)) d (p2 .0))
+      after-step h (p1 .0) (c .slots) (x .messages) (startStep c h d) (acts-step (c .settings) (hostAt c h) (stands h (p1 .0)) (begins d) (host-in (c .settings) (hostAt c h) (i .host h (p1 .0))) (p2 .0))
 
   after-deliver : (k : ℕ) (t : Content) → contentAt c k ≡ t → Next (c .settings) w (delivered c k t)
   unfolding delivered
@@ -234,7 +235,7 @@ module _ {c : Cell} {w : World (setup (c .settings))} (x : Explained (c .setting
       let f = holds-at (Sendable (sizesOf (c .settings))) (c .slots) k m (i .messages) e in
       let b = target-in (sizesOf (c .settings)) m f in
       after-step h b (freed (c .slots) k) (holds-freed (SentIn w) (c .slots) k (x .messages)) (deliverStep c m)
-      (acts-delivery (c .settings) (hostAt c h) (stands h b) m (i .host h b) (f, holds-at (SentIn w) (c .slots) k m (x .messages) e))
+      (acts-step (c .settings) (hostAt c h) (stands h b) (gets m) (host-in (c .settings) (hostAt c h) (i .host h b)) (f, holds-at (SentIn w) (c .slots) k m (x .messages) e))
 
   -- the slots may change as long as each message under way was sent
   after-slots : (ss : List Slot) → Holds (SentIn w) ss → Next (c .settings) w (withSlots c ss)
@@ -284,10 +285,10 @@ opened-host s clock h few b = opened-at s clock h few ∙ rw (lt-ltb h (s .n) b)
 
 -- a cell just opened is the theory's world just opened
 explained-opened : (s : Settings) (clock : ℕ) → settingsOk s ≡ true → Explained s (openedWith s clock) (M.opened clock)
-unfolding openedWith restartedHost waitEnd
+unfolding openedWith restartedHost
 explained-opened s clock e = record {
   settings = refl;
-  host = λ h b. let p = opened-host s clock h (settings-in s e .few) b in record { host = ap (asHost s) (sym p); clock = ap (λ (v : Host). v .clock) (sym p) };
+  host = λ h b. let p = opened-host s clock h (settings-in s e .few) b in record { host = rw (p, wait-is clock (s .longest) (s .spread)); clock = ap (λ (v : Host). v .clock) (sym p) };
   beyond = λ h b. refl;
   messages = holds-none (SentIn (M.opened {𝒞 = setup s} clock));
 }

@@ -20,9 +20,9 @@ use Rattle.host.specs.Steps.{hostOk, advanceRefusal, advancedHost, restartRefus
 use Rattle.state.proofs.StateLimits.{settings-in}
 use Rattle.host.proofs.HostLimits.{host-in}
 use Rattle.host.proofs.Writable.{writable-each}
-use Rattle.host.proofs.Refused.{restart-in}
-use Rattle.host.proofs.Within.{Fine, fine-restart, fine-delivery, fine-advance, fine-start}
-use Rattle.host.proofs.Outcomes.{Stays, stays-start, stays-delivery}
+use Rattle.host.proofs.Refusals.{restart-in}
+use Rattle.host.proofs.Within.{Fine, fine-restart, fine-advance, fine-step}
+use Rattle.host.proofs.Outcomes.{begins, gets, Stays, stays-step}
 use Rattle.places.specs.Places.{blankHost, newHost}
 use Rattle.places.specs.Parts.{Opens}
 use Rattle.places.proofs.Opening.{new-blank, new-at, new-fits}
@@ -182,7 +182,8 @@ unfolding startAtRefusal
 kept-start c h d o e =
     let p1 = host-passed c h _ e in
     let p2 = first-passed (startRefusal (c .settings) (hostAt c h) d) _ (p1 .1) in
-    step-kept c h (c .slots) (startStep c h d) o (p1 .0) (stays-start (c .settings) (hostAt c h) d) (fine-start (c .settings) (hostAt c h) d (p2 .0)) refl (cell-in c (o .0) (o .1) .messages)
+    let j = cell-in c (o .0) (o .1) in
+    step-kept c h (c .slots) (startStep c h d) o (p1 .0) (stays-step (c .settings) (hostAt c h) (begins d)) (fine-step (c .settings) (hostAt c h) (begins d) (host-in (c .settings) (hostAt c h) (j .host h (p1 .0))) (p2 .0)) refl (j .messages)
 
 kept-deliver : (c : Cell) (i : ℕ) (t : Content) → contentAt c i ≡ t → Sound c → Sound (delivered c i t)
 unfolding delivered
@@ -193,7 +194,7 @@ kept-deliver c i (Content.One m) e o =
     let f = holds-at (Sendable (sizesOf s)) (c .slots) i m (j .messages) e in
     let b = target-in (sizesOf s) m f in
     let h = hostAt c (targetOf m) in
-    step-kept c (targetOf m) (freed (c .slots) i) (deliverStep c m) o b (stays-delivery s h m) (fine-delivery s h m (host-in s h (j .host (targetOf m) b)) f) (length-freed (c .slots) i) (holds-freed (Sendable (sizesOf s)) (c .slots) i (j .messages))
+    step-kept c (targetOf m) (freed (c .slots) i) (deliverStep c m) o b (stays-step s h (gets m)) (fine-step s h (gets m) (host-in s h (j .host (targetOf m) b)) f) (length-freed (c .slots) i) (holds-freed (Sendable (sizesOf s)) (c .slots) i (j .messages))
 
 kept-repeat : (c : Cell) (i : ℕ) (t : Content) → contentAt c i ≡ t → Sound c → Sound (repeated c t)
 unfolding repeated

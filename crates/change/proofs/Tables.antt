@@ -22,9 +22,9 @@ use Rattle.host.specs.declared.Host.{Host}
 use Rattle.host.specs.declared.Sent.{Sent}
 use Rattle.host.specs.declared.Stepped.{Stepped}
 use Rattle.host.specs.Steps.{refusedWith, quietWith, sendingWith, advanceRefusal, advanceOf, advancedHost, restartRefusal, restartOf, restartedHost, startRefusal, startOf, onStart, receiveRefusal, receiveOf}
-use Rattle.host.proofs.Refused.{message-passed}
+use Rattle.host.proofs.Refusals.{message-passed}
 use Rattle.host.proofs.Within.{lawful-advance, lawful-restart, lawful-start, lawful-message}
-use Rattle.host.proofs.Outcomes.{stays-start, stays-delivery}
+use Rattle.host.proofs.Outcomes.{begins, gets, stays-step}
 use Rattle.slots.specs.declared.Slot.{Slot}
 use Rattle.slots.specs.declared.Content.{Content}
 use Rattle.slots.specs.Slots.{slotCount, emptySlot, isEmpty, slotRefusal, empties, fullRefusal, placed, placedEach, placedTo, freed}
@@ -175,7 +175,7 @@ module _ (c : Cell) (z : Sized c) (o : cellOk c ≡ true) where
       let step = onStart s x d in
       host-row h (change (startOf s x d) false) (startRefusal s x d) _ (lawful-start s x d .answer)
       (λ e. first-only (stepFull (c .slots) step) ∙ ap (λ (ss : List Slot). stepFull ss step) (sym (keeps (c .slots) 0))
-      ∙ sym (still-passed 0 h (change step false) (stays-start s x d .clock))
+      ∙ sym (still-passed 0 h (change step false) (stays-step s x (begins d) .clock))
       ∙ ap (λ (y : Stepped). firstOf (tail 0 h (change y false))) (sym (lawful-start s x d .done e)))
 
   start-after : (h d : ℕ) → startAtRefusal c h d ≡ done → stepped c h (c .slots) (startStep c h d) ≡ changed c 0 h (change (startOf (c .settings) (hostAt c h) d) false)
@@ -223,7 +223,7 @@ module _ (c : Cell) (z : Sized c) (o : cellOk c ≡ true) where
         let k = change (deliverStep c m) true in
         slot-row i h (Content.One m) (delivers (Content.One m)) (deliverFull c i (Content.One m) ∷ []) (in-reach m e)
         (first-only (stepFull (freed (c .slots) i) (deliverStep c m))
-        ∙ sym (still-passed i h k (stays-delivery s (hostAt c h) m .clock))
+        ∙ sym (still-passed i h k (stays-step s (hostAt c h) (gets m) .clock))
         ∙ ap (λ (y : Stepped). firstOf (tail i h (change y true))) (sym (steps m e))
         ∙ sym (first-next (receiveOf s (hostAt c h) m .answer) (tail i h (delivers (Content.One m))) (lawful-message s (hostAt c h) m .answer ∙ passed m e)))
 

@@ -1,6 +1,6 @@
 pub mod HostLimits
 pub mod Writable
-pub mod Refused
+pub mod Refusals
 pub mod Outcomes
 pub mod Within
 pub mod Majority

@@ -4,7 +4,6 @@ use mathlib.Core.Path.{_≡_, refl}
 use mathlib.Core.Bool.{true, false}
 use Prim.Native.Nat.{ℕ}
 use lib.Dec.{leb, eqb}
-use Rattle.base.specs.Refusals.{done}
 use Rattle.base.proofs.Tests.{by-test}
 use Rattle.quorum.specs.Sets.{singleOf, everyoneOf, othersOf}
 use Rattle.message.specs.declared.Head.{Head}
@@ -24,26 +23,51 @@ use Rattle.state.specs.declared.Proposing.{Proposing}
 use Rattle.state.specs.declared.Round.{Round}
 use Rattle.host.specs.declared.Host.{Host}
 use Rattle.host.specs.declared.Stepped.{Stepped}
-use Rattle.host.specs.Steps.{quietWith, sendingWith, withRound, withVote, withNamed, headFrom, startRefusal, onStart, responseWith, onPrepareRequest, askingAfter, proposedValue, onMajority, onCountedReply, onReply, onPrepareResponse, leaseOf, onProposeRequest, proposingAfter, holderOf, onNaming, onChosen, onCountedVote, onVote, onProposeResponse, learnedHolder, onLearn, onMessage, onDelivery}
+use Rattle.host.specs.Steps.{quietWith, sendingWith, withRound, withVote, withNamed, headFrom, onStart, responseWith, onPrepareRequest, askingAfter, proposedValue, onMajority, onCountedReply, onReply, onPrepareResponse, leaseOf, onProposeRequest, proposingAfter, holderOf, onNaming, onChosen, onCountedVote, onVote, onProposeResponse, learnedHolder, onLearn, onMessage, onDelivery}
 
 -- the message is a reply with this head that tells of this lease, or of none
 pub data Reply : Message → Head → Accepted → Type 0 where
   empty : (m : Head) → Reply (PrepareResponseEmpty m) m Accepted.Nothing
   lease : (m : LeaseResponse) → Reply (PrepareResponseLease m) (m .head) (Accepted.One (m .accepted))
 
--- Got is what is known of a message that the host is handed
-module _ (s : Settings) (h : Host) (Got : Message → Type 0) where
+-- what a host is handed: a start for so many ticks, or a message
+pub data Cause : Type 0 where
+  begins : ℕ → Cause
+  gets : Message → Cause
+
+module _ (s : Settings) (h : Host) where
+  -- the step that it takes then
+  abbrev pub stepOn : Cause → Stepped
+  stepOn (begins d) = onStart s h d
+  stepOn (gets m) = onDelivery s h m
+
+  -- the host that names the holder of a chosen lease, and what it tells the others
+  abbrev pub naming : Proposing → Host
+  naming p = withNamed h Round.Idle (namedBy (h .state .named) (holderOf s p))
+
+  abbrev pub news : Holder → Message
+  news k = Learn (record { head = headFrom h (k .ballot); owner = k .owner; end = k .end })
+
+  -- the round of a host that has a majority of replies to a, and what it sends to all
+  abbrev pub proposes : Asking → Proposing
+  proposes a = record { ballot = a .ballot; owner = proposedValue s h a .owner; end = proposedValue s h a .end; replied = 0 }
+
+  abbrev pub proposal : Asking → Message
+  proposal a = ProposeRequest (record { head = headFrom h (a .ballot); owner = proposedValue s h a .owner; end = proposedValue s h a .end })
+
+-- Known is what is known of that which the host is handed
+module _ (s : Settings) (h : Host) (Known : Cause → Type 0) where
   -- a reply to the ballot that the host asks
   pub record Heard (a : Asking) (d : Head) (reply : Accepted) : Type 0 where
     pub message : Message
     pub is : Reply message d reply
-    pub got : Got message
+    pub got : Known (gets message)
     pub round : h .state .round ≡ Round.Asking a
     pub same : isSame (a .ballot) (d .ballot) ≡ true
 
   -- a vote for the ballot that the host proposes
   pub record Voted (p : Proposing) (d : Head) : Type 0 where
-    pub got : Got (ProposeResponse d)
+    pub got : Known (gets (ProposeResponse d))
     pub round : h .state .round ≡ Round.Proposing p
     pub same : isSame (p .ballot) (d .ballot) ≡ true
 
@@ -53,41 +77,28 @@ module _ (s : Settings) (h : Host) (Got : Message → Type 0) where
     pub reaches : actsOn (s .n) (p .replied) (proposingAfter p (d .sender) .replied) ≡ true
     pub namable : isNamable (h .clock) (s .spread) (proposingAfter p (d .sender) .end) ≡ true
 
-  -- the host that names the holder of a chosen lease, and what it tells the others
-  abbrev pub naming : Proposing → Host
-  naming p = withNamed h Round.Idle (namedBy (h .state .named) (holderOf s p))
-
-  abbrev pub news : Holder → Message
-  news k = Learn (record { head = headFrom h (k .ballot); owner = k .owner; end = k .end })
-
-  abbrev pub proposes : Asking → Proposing
-  proposes a = record { ballot = a .ballot; owner = proposedValue s h a .owner; end = proposedValue s h a .end; replied = 0 }
-
   pub data Outcome : Stepped → Type 0 where
     nothing : Outcome (quietWith h)
-    begun : (d : ℕ) → startRefusal s h d ≡ done → Outcome (onStart s h d)
+    begun : (d : ℕ) → Known (begins d) → Outcome (onStart s h d)
     promised :
-        (m : Head) → Got (PrepareRequest m) → isWaiting (h .clock) (h .wait) ≡ false → mayPromise (h .state .promised) (m .ballot) ≡ true →
+        (m : Head) → Known (gets (PrepareRequest m)) → isWaiting (h .clock) (h .wait) ≡ false → mayPromise (h .state .promised) (m .ballot) ≡ true →
         Outcome (sendingWith (withVote h (Promised.To (m .ballot)) (h .state .accepted)) (responseWith (headFrom h (m .ballot)) (h .state .accepted)) (singleOf (m .ballot .host)))
     heard : (a : Asking) (d : Head) (reply : Accepted) → Heard a d reply → Outcome (quietWith (withRound h (Round.Asking (askingAfter a (d .sender) reply))))
     proposed :
         (a : Asking) (d : Head) (reply : Accepted) → Heard a d reply → actsOn (s .n) (a .replied) (askingAfter a (d .sender) reply .replied) ≡ true →
-        Outcome (
-        sendingWith (withRound h (Round.Proposing (proposes (askingAfter a (d .sender) reply))))
-        (ProposeRequest (record { head = headFrom h (askingAfter a (d .sender) reply .ballot); owner = proposedValue s h (askingAfter a (d .sender) reply) .owner; end = proposedValue s h (askingAfter a (d .sender) reply) .end })) (everyoneOf (s .n))
-        )
+        Outcome (sendingWith (withRound h (Round.Proposing (proposes s h (askingAfter a (d .sender) reply)))) (proposal s h (askingAfter a (d .sender) reply)) (everyoneOf (s .n)))
     gaveUp : Outcome (quietWith (withRound h Round.Idle))
     accepted :
-        (m : Proposal) → Got (ProposeRequest m) → isWaiting (h .clock) (h .wait) ≡ false → mayAccept (h .state .promised) (h .clock) (leaseOf m) ≡ true →
+        (m : Proposal) → Known (gets (ProposeRequest m)) → isWaiting (h .clock) (h .wait) ≡ false → mayAccept (h .state .promised) (h .clock) (leaseOf m) ≡ true →
         Outcome (sendingWith (withVote h (afterAccept (leaseOf m) .promised) (afterAccept (leaseOf m) .accepted)) (ProposeResponse (headFrom h (m .head .ballot))) (singleOf (m .head .ballot .host)))
     countedVote : (p : Proposing) (d : Head) → Voted p d → Outcome (quietWith (withRound h (Round.Proposing (proposingAfter p (d .sender)))))
-    named : (p : Proposing) (d : Head) → Chosen p d → Outcome (sendingWith (naming (proposingAfter p (d .sender))) (news (holderOf s (proposingAfter p (d .sender)))) (othersOf (s .n) (h .number)))
-    namedAlone : (p : Proposing) (d : Head) → Chosen p d → Outcome (quietWith (naming (proposingAfter p (d .sender))))
-    told : (m : LearnedLease) → Got (Learn m) → leb (m .end .0) (h .clock) ≡ false → Outcome (quietWith (withNamed h (h .state .round) (namedBy (h .state .named) (learnedHolder m))))
+    named : (p : Proposing) (d : Head) → Chosen p d → Outcome (sendingWith (naming s h (proposingAfter p (d .sender))) (news s h (holderOf s (proposingAfter p (d .sender)))) (othersOf (s .n) (h .number)))
+    namedAlone : (p : Proposing) (d : Head) → Chosen p d → Outcome (quietWith (naming s h (proposingAfter p (d .sender))))
+    told : (m : LearnedLease) → Known (gets (Learn m)) → leb (m .end .0) (h .clock) ≡ false → Outcome (quietWith (withNamed h (h .state .round) (namedBy (h .state .named) (learnedHolder m))))
 
   -- ---- every step has one of them
 
-  replied : (m : Message) (d : Head) (reply : Accepted) → Reply m d reply → Got m → (r : Round) → h .state .round ≡ r → Outcome (onPrepareResponse s h r d reply)
+  replied : (m : Message) (d : Head) (reply : Accepted) → Reply m d reply → Known (gets m) → (r : Round) → h .state .round ≡ r → Outcome (onPrepareResponse s h r d reply)
   unfolding onPrepareResponse onReply onCountedReply onMajority
   replied m d reply i g Round.Idle z = nothing
   replied m d reply i g (Round.Proposing p) z = nothing
@@ -106,7 +117,7 @@ module _ (s : Settings) (h : Host) (Got : Message → Type 0) where
       b : Asking
       b = askingAfter a (d .sender) reply
 
-  vote : (d : Head) → Got (ProposeResponse d) → (r : Round) → h .state .round ≡ r → Outcome (onProposeResponse s h r d)
+  vote : (d : Head) → Known (gets (ProposeResponse d)) → (r : Round) → h .state .round ≡ r → Outcome (onProposeResponse s h r d)
   unfolding onProposeResponse onVote onCountedVote onChosen onNaming
   vote d g Round.Idle z = nothing
   vote d g (Round.Asking a) z = nothing
@@ -128,7 +139,7 @@ module _ (s : Settings) (h : Host) (Got : Message → Type 0) where
       q : Proposing
       q = proposingAfter p (d .sender)
 
-  on-message : (m : Message) → Got m → isWaiting (h .clock) (h .wait) ≡ false → Outcome (onMessage s h m)
+  on-message : (m : Message) → Known (gets m) → isWaiting (h .clock) (h .wait) ≡ false → Outcome (onMessage s h m)
   unfolding onMessage onPrepareRequest onProposeRequest onLearn
   on-message (PrepareRequest m) g w = by-test Outcome (mayPromise (h .state .promised) (m .ballot)) _ _ (λ t. promised m g w t) (λ _. nothing)
   on-message (PrepareResponseEmpty m) g w = replied _ m Accepted.Nothing (empty m) g (h .state .round) refl
@@ -137,9 +148,10 @@ module _ (s : Settings) (h : Host) (Got : Message → Type 0) where
   on-message (ProposeResponse m) g w = vote m g (h .state .round) refl
   on-message (Learn m) g w = by-test Outcome (leb (m .end .0) (h .clock)) _ _ (λ _. nothing) (λ t. told m g t)
 
-  pub outcome : (m : Message) → Got m → Outcome (onDelivery s h m)
+  pub outcome : (c : Cause) → Known c → Outcome (stepOn s h c)
   unfolding onDelivery
-  outcome m g = by-test Outcome (isWaiting (h .clock) (h .wait)) (quietWith h) (onMessage s h m) (λ _. nothing) (λ w. on-message m g w)
+  outcome (begins d) k = begun d k
+  outcome (gets m) k = by-test Outcome (isWaiting (h .clock) (h .wait)) (quietWith h) (onMessage s h m) (λ _. nothing) (λ w. on-message m k w)
 
 -- ---- a step leaves a host its number, its clock and its wait
 
@@ -148,7 +160,7 @@ pub record Stays (h : Host) (step : Stepped) : Type 0 where
   pub clock : step .host .clock ≡ h .clock
   pub wait : step .host .wait ≡ h .wait
 
-pub stays : {s : Settings} {h : Host} {Got : Message → Type 0} {t : Stepped} → Outcome s h Got t → Stays h t
+stays : {s : Settings} {h : Host} {Known : Cause → Type 0} {t : Stepped} → Outcome s h Known t → Stays h t
 unfolding onStart
 stays nothing = record { number = refl; clock = refl; wait = refl }
 stays (begun d _) = record { number = refl; clock = refl; wait = refl }
@@ -162,10 +174,6 @@ stays (named p d _) = record { number = refl; clock = refl; wait = refl }
 stays (namedAlone p d _) = record { number = refl; clock = refl; wait = refl }
 stays (told m _ _) = record { number = refl; clock = refl; wait = refl }
 
--- of a start whether it is refused or not, and of every message
-pub stays-start : (s : Settings) (h : Host) (d : ℕ) → Stays h (onStart s h d)
-unfolding onStart
-stays-start s h d = record { number = refl; clock = refl; wait = refl }
-
-pub stays-delivery : (s : Settings) (h : Host) (m : Message) → Stays h (onDelivery s h m)
-stays-delivery s h m = stays (outcome s h (λ _. Unit {0}) m tt)
+-- whether a start is refused or not, and of every message
+pub stays-step : (s : Settings) (h : Host) (c : Cause) → Stays h (stepOn s h c)
+stays-step s h c = stays (outcome s h (λ _. Unit {0}) c tt)

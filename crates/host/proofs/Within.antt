@@ -37,8 +37,8 @@ use Rattle.host.specs.declared.Stepped.{Stepped}
 use Rattle.host.specs.Steps.{lastWait, hostOk, refusedWith, quietWith, sendingWith, stepWith, withState, withRound, withVote, withNamed, advanceRefusal, advancedHost, advanceOf, restartRefusal, restartedHost, restartOf, startRefusal, onStart, startOf, askingAfter, proposedValue, leaseOf, proposingAfter, holderOf, learnedHolder, onDelivery, receiveRefusal, receiveOf}
 use Rattle.host.proofs.HostLimits.{HostIn, out-host}
 use Rattle.host.proofs.Writable.{writes, Writable, writes-request, writes-response, writes-proposal, writes-vote, writes-learn}
-use Rattle.host.proofs.Refused.{advance-in, restart-in, start-in, message-in}
-use Rattle.host.proofs.Outcomes.{Reply, empty, lease, Heard, Voted, Outcome, nothing, begun, promised, heard, proposed, gaveUp, accepted, countedVote, named, namedAlone, told, outcome, proposes, naming}
+use Rattle.host.proofs.Refusals.{advance-in, restart-in, start-in, message-in}
+use Rattle.host.proofs.Outcomes.{Reply, empty, lease, Cause, begins, gets, stepOn, Heard, Voted, Outcome, nothing, begun, promised, heard, proposed, gaveUp, accepted, countedVote, named, namedAlone, told, outcome, proposes, naming}
 
 -- ---- a host with a part of it replaced
 
@@ -47,8 +47,7 @@ unfolding lastWait lastTick lastLongest
 lastWait-is = refl
 
 wait-last : (s : Settings) (clock : ℕ) → settingsOk s ≡ true → clock ≤ lastTick → waitEnd clock (s .longest) (s .spread) ≤ lastWait
-unfolding waitEnd
-wait-last s clock e c = let i = settings-in s e in omega (arith, lastWait-is, i .short, i .less, c)
+wait-last s clock e c = let i = settings-in s e in omega (arith, R.wait-is clock (s .longest) (s .spread), lastWait-is, i .short, i .less, c)
 
 kept-state : (s : Settings) (h : Host) (t : State) → HostIn s h → StateIn s (h .number) t → hostOk s (withState h t) ≡ true
 kept-state s h t i j =
@@ -119,12 +118,13 @@ promised-ok : (n : ℕ) (b : Ballot) → BallotIn n b → promisedOk n (Promised
 unfolding promisedOk
 promised-ok n b i = out-ballot n b i
 
--- writing refuses nothing in the message
-abbrev pub Passes : Settings → Message → Type 0
-Passes s m = faultOf (sizesOf s) (numbersOf m) ≡ done
+-- the start is not refused; writing refuses nothing in the message
+abbrev pub Passes : Settings → Host → Cause → Type 0
+Passes s h (begins d) = startRefusal s h d ≡ done
+Passes s h (gets m) = faultOf (sizesOf s) (numbersOf m) ≡ done
 
 -- a reply in which nothing is refused
-pub reply-in : (s : Settings) {m : Message} {d : Head} {a : Accepted} → Reply m d a → Passes s m → (d .sender < s .n) × (acceptedOk (s .n) a ≡ true)
+pub reply-in : (s : Settings) {m : Message} {d : Head} {a : Accepted} → Reply m d a → faultOf (sizesOf s) (numbersOf m) ≡ done → (d .sender < s .n) × (acceptedOk (s .n) a ≡ true)
 unfolding numbersOf acceptedOk
 reply-in s (empty d) f = (fault-passed (sizesOf s) (numbersOf (PrepareResponseEmpty d)) f .sender, refl)
 reply-in s (lease m) f =
@@ -156,21 +156,21 @@ module _ (s : Settings) (h : Host) (i : HostIn s h) where
       let j = proposing-held p z in
       record { host = j .host; lease = j .lease; replied = kept-replied (s .n) (p .replied) (d .sender) (j .replied) b }
 
-  heard-in : (a : Asking) (d : Head) (reply : Accepted) → Heard s h (Passes s) a d reply → AskingIn s (h .number) (askingAfter a (d .sender) reply)
+  heard-in : (a : Asking) (d : Head) (reply : Accepted) → Heard s h (Passes s h) a d reply → AskingIn s (h .number) (askingAfter a (d .sender) reply)
   heard-in a d reply x = let r = reply-in s (x .is) (x .got) in counted-in a d reply (x .round) (r .0) (r .1)
 
-  vote-in : (p : Proposing) (d : Head) → Voted s h (Passes s) p d → ProposingIn s (h .number) (proposingAfter p (d .sender))
+  vote-in : (p : Proposing) (d : Head) → Voted s h (Passes s h) p d → ProposingIn s (h .number) (proposingAfter p (d .sender))
   unfolding numbersOf
   vote-in p d x = voted-in p d (x .round) (fault-passed (sizesOf s) (numbersOf (ProposeResponse d)) (x .got) .sender)
 
   -- the host that names the holder of a chosen lease, and the holder
-  chosen-in : (p : Proposing) → ProposingIn s (h .number) p → hostOk s (naming s h (Passes s) p) ≡ true × LeaseIn (s .n) (p .ballot) (p .owner) (p .end .0 - s .spread)
+  chosen-in : (p : Proposing) → ProposingIn s (h .number) p → hostOk s (naming s h p) ≡ true × LeaseIn (s .n) (p .ballot) (p .owner) (p .end .0 - s .spread)
   chosen-in p j =
       let q = j .lease in
       let l : LeaseIn (s .n) (p .ballot) (p .owner) (p .end .0 - s .spread) = record { tick = q .tick; host = q .host; owner = q .owner; end = omega (arith, q .end) } in
       (kept-named s h Round.Idle _ i (idle-ok s (h .number)) (kept-naming (s .n) (R.naming (holderOf s p) (h .state .named)) (held .named) (out-named (s .n) (holderOf s p) l)), l)
 
-  pub fine : {t : Stepped} → Outcome s h (Passes s) t → Fine s t
+  fine : {t : Stepped} → Outcome s h (Passes s h) t → Fine s t
   unfolding numbersOf onStart
   fine nothing = fine-quiet s h (out-host s h i)
   fine (begun d r) =
@@ -189,7 +189,7 @@ module _ (s : Settings) (h : Host) (i : HostIn s h) where
       let b = askingAfter a (d .sender) reply in
       let l : BallotIn (s .n) (b .ballot) = record { tick = j .tick; host = rw (j .host) (i .number) } in
       let c = value-in (s .n) (R.to-propose (h .number) (h .clock) (ownEnd (b .ballot .tick) (b .duration) (s .spread)) (b .kept)) (i .number) (own-last s (b .ballot .tick) (b .duration) (i .settings) (j .tick) (j .duration)) (j .kept) in
-      let p = out-proposing s (h .number) (proposes s h (Passes s) b) (record { host = j .host; lease = record { tick = l .tick; host = l .host; owner = c .owner; end = c .end }; replied = nobody-below (s .n) }) in
+      let p = out-proposing s (h .number) (proposes s h b) (record { host = j .host; lease = record { tick = l .tick; host = l .host; owner = c .owner; end = c .end }; replied = nobody-below (s .n) }) in
       fine-sending s _ _ (everyoneOf (s .n)) (kept-round s h _ i p) (writes-proposal s h (b .ballot) (proposedValue s h b) i l (j .host) c)
   fine gaveUp = fine-quiet s _ (kept-round s h Round.Idle i (idle-ok s (h .number)))
   fine (accepted m g _ _) =
@@ -235,11 +235,8 @@ lawful s k h step f = record {
 pub fine-advance : (s : Settings) (h : Host) (d : ℕ) → advanceRefusal s h d ≡ done → Fine s (quietWith (advancedHost h d))
 fine-advance s h d e = let p = advance-in s h d e in fine-advanced s h d (p .0) (p .1)
 
-pub fine-start : (s : Settings) (h : Host) (d : ℕ) → startRefusal s h d ≡ done → Fine s (onStart s h d)
-fine-start s h d e = fine s h (start-in s h d e .host) (begun d e)
-
-pub fine-delivery : (s : Settings) (h : Host) (m : Message) → HostIn s h → Passes s m → Fine s (onDelivery s h m)
-fine-delivery s h m i f = fine s h i (outcome s h (Passes s) m f)
+pub fine-step : (s : Settings) (h : Host) (c : Cause) → HostIn s h → Passes s h c → Fine s (stepOn s h c)
+fine-step s h c i k = fine s h i (outcome s h (Passes s h) c k)
 
 pub lawful-advance : (s : Settings) (h : Host) (d : ℕ) → Lawful s h (advanceRefusal s h d) (quietWith (advancedHost h d)) (advanceOf s h d)
 unfolding advanceOf
@@ -251,8 +248,8 @@ lawful-restart s h = lawful s (restartRefusal s h) h (quietWith (restartedHost s
 
 pub lawful-start : (s : Settings) (h : Host) (d : ℕ) → Lawful s h (startRefusal s h d) (onStart s h d) (startOf s h d)
 unfolding startOf
-lawful-start s h d = lawful s (startRefusal s h d) h (onStart s h d) (fine-start s h d)
+lawful-start s h d = lawful s (startRefusal s h d) h (onStart s h d) (λ e. fine-step s h (begins d) (start-in s h d e .host) e)
 
 pub lawful-message : (s : Settings) (h : Host) (m : Message) → Lawful s h (receiveRefusal s h m) (onDelivery s h m) (receiveOf s h m)
 unfolding receiveOf
-lawful-message s h m = lawful s (receiveRefusal s h m) h (onDelivery s h m) (λ e. let p = message-in s h m e in fine-delivery s h m (p .0) (p .1))
+lawful-message s h m = lawful s (receiveRefusal s h m) h (onDelivery s h m) (λ e. let p = message-in s h m e in fine-step s h (gets m) (p .0) (p .1))

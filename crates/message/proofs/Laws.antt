@@ -1,23 +1,44 @@
--- Laws of messages as numbers, of kinds, and of what is refused in a message. Assumes nothing.
-use mathlib.Core.Path.{_≡_, refl}
+-- Laws of the order of ballots, of messages as numbers, of kinds, and of what is refused in a message. Assumes nothing.
+use mathlib.Core.Path.{_≡_, refl, sym}
 use mathlib.Core.Bool.{Bool, true, false, cond}
 use mathlib.Core.List.{[], _∷_}
 use Prim.Native.Nat.{ℕ, zero, suc, _≤_, _<_}
 use native.Mathlib.Omega.{arith}
 use lib.Dec.{ltb, leb, eqb}
-use borrow.Author.Tests.{ltb-true, leb-true, lt-ltb, le-leb, eq-eqb}
+use borrow.Author.Tests.{ltb-true, leb-true, eqb-true, lt-ltb, le-ltb, le-leb, eq-eqb, ne-eqb}
 use Rattle.base.specs.Refusals.{firstOf, allHold, answer, refusedHost, refusedTick, refusedParty}
 use Rattle.base.specs.Lists.{All, allOf}
 use Rattle.base.proofs.Tests.{both, unless-passed}
 use Rattle.base.proofs.Lists.{all-of-in, out-all-of}
 use Rattle.quorum.specs.Sets.{Member, isIn, isBelow, isOnly}
 use Rattle.quorum.proofs.Laws.{only-one}
+use Rattle.message.specs.declared.Ballot.{Ballot}
 use Rattle.message.specs.declared.Sizes.{Sizes}
 use Rattle.message.specs.declared.Numbers.{Numbers}
 use Rattle.message.specs.declared.Message.{Message}
 use Rattle.message.specs.declared.Message.the-variants.{PrepareRequest, PrepareResponseEmpty, PrepareResponseLease, ProposeRequest, ProposeResponse, Learn}
-use Rattle.message.specs.Message.{lastTick, lastEnd, prepareRequest, prepareResponseEmpty, prepareResponseLease, proposeRequest, proposeResponse, learn, knownKind, isResponse, numbersOf, messageOf, withTarget, addressedTo, targetOf}
+use Rattle.message.specs.Message.{lastTick, lastEnd, isAbove, prepareRequest, prepareResponseEmpty, prepareResponseLease, proposeRequest, proposeResponse, learn, knownKind, isResponse, numbersOf, messageOf, withTarget, addressedTo, targetOf}
 use Rattle.message.specs.Faults.{hostTests, tickTests, messageRefusals, partyFits, faultOf, partyFitsTo, faultTo}
+
+-- ---- the order of ballots
+
+-- no ballot is above itself
+pub above-itself : (b : Ballot) → isAbove b b ≡ false
+unfolding isAbove
+above-itself b = rw (eq-eqb (b .tick) (b .tick) refl, le-ltb (b .host) (b .host) (omega arith))
+
+-- of two ballots at most one is above the other
+pub above-one-way : (a b : Ballot) → isAbove a b ≡ true → isAbove b a ≡ false
+unfolding isAbove
+above-one-way a b e = go (eqb (a .tick) (b .tick)) refl e
+  where
+    go : (t : Bool) → eqb (a .tick) (b .tick) ≡ t → cond t (ltb (b .host) (a .host)) (ltb (b .tick) (a .tick)) ≡ true → cond (eqb (b .tick) (a .tick)) (ltb (a .host) (b .host)) (ltb (a .tick) (b .tick)) ≡ false
+    go true p q =
+        let l = ltb-true (b .host) (a .host) q in
+        rw (eq-eqb (b .tick) (a .tick) (sym (eqb-true (a .tick) (b .tick) p)), le-ltb (a .host) (b .host) (omega arith))
+    go false p q =
+        let l = ltb-true (b .tick) (a .tick) q in
+        rw (ne-eqb (b .tick) (a .tick) (λ s. omega arith), le-ltb (a .tick) (b .tick) (omega arith))
 
 -- ---- messages as numbers
 

@@ -14,7 +14,7 @@ use Rattle.state.proofs.Blank.{blank-fits}
 use Rattle.host.specs.declared.Host.{Host}
 use Rattle.host.specs.Steps.{hostOk, quietWith, restartedHost, restartOf}
 use Rattle.host.proofs.HostLimits.{HostIn, out-host}
-use Rattle.host.proofs.Refused.{restart-passed}
+use Rattle.host.proofs.Refusals.{restart-passed}
 use Rattle.host.proofs.Within.{fine-restart, lawful-restart}
 use Rattle.places.specs.Places.{blankHost, unwaited, newHost, newHosts}
 use Rattle.places.specs.Parts.{Opens}

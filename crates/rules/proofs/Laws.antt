@@ -3,14 +3,15 @@ use mathlib.Core.Path.{_≡_, refl, sym, ap}
 use mathlib.Core.Bool.{Bool, true, false, cond, not}
 use Prim.Native.Nat.{ℕ, _+_, _≤_, _<_}
 use native.Mathlib.Omega.{arith}
-use lib.Dec.{ltb, leb, eqb}
-use borrow.Author.Tests.{ltb-true, leb-true, leb-false, eqb-true, not-true, le-ltb, le-leb, eq-eqb, ne-eqb}
+use lib.Dec.{leb, eqb}
+use borrow.Author.Tests.{ltb-true, leb-true, leb-false, eqb-true, not-true, le-leb}
 use Rattle.base.proofs.Tests.{by-test, true-false}
 use Rattle.quorum.specs.Sets.{withHost, isMajority}
 use Rattle.quorum.proofs.Majorities.{with-same}
 use Rattle.message.specs.declared.Ballot.{Ballot}
 use Rattle.message.specs.declared.KeepersEnd.{KeepersEnd}
 use Rattle.message.specs.declared.Lease.{Lease}
+use Rattle.message.proofs.Laws.{above-itself, above-one-way}
 use Rattle.message.specs.Message.{isAbove, toHolders}
 use Rattle.rules.specs.declared.Promised.{Promised}
 use Rattle.rules.specs.declared.Accepted.{Accepted}
@@ -20,32 +21,17 @@ use Rattle.rules.specs.declared.Named.{Named}
 use Rattle.rules.specs.declared.Value.{Value}
 use Rattle.rules.specs.Rules.{waitEnd, leaseOver, acceptedAt, holderOver, namedAt, ballotAt, isFresh, mayPromise, countsReply, hasEnded, replacesKept, higherOf, actsOn, value, ownIsLater, valueToPropose, isForbidden, mayAccept, afterAccept, namingBound, isNamable, namedBy}
 
--- ---- the order of ballots
-
--- no ballot is above itself
-above-itself : (b : Ballot) → isAbove b b ≡ false
-unfolding isAbove
-above-itself b = rw (eq-eqb (b .tick) (b .tick) refl, le-ltb (b .host) (b .host) (omega arith))
-
--- of two ballots at most one is above the other
-above-one-way : (a b : Ballot) → isAbove a b ≡ true → isAbove b a ≡ false
-unfolding isAbove
-above-one-way a b e = go (eqb (a .tick) (b .tick)) refl e
-  where
-    go : (t : Bool) → eqb (a .tick) (b .tick) ≡ t → cond t (ltb (b .host) (a .host)) (ltb (b .tick) (a .tick)) ≡ true → cond (eqb (b .tick) (a .tick)) (ltb (a .host) (b .host)) (ltb (a .tick) (b .tick)) ≡ false
-    go true p q =
-        let l = ltb-true (b .host) (a .host) q in
-        rw (eq-eqb (b .tick) (a .tick) (sym (eqb-true (a .tick) (b .tick) p)), le-ltb (a .host) (b .host) (omega arith))
-    go false p q =
-        let l = ltb-true (b .tick) (a .tick) q in
-        rw (ne-eqb (b .tick) (a .tick) (λ s. omega arith), le-ltb (a .tick) (b .tick) (omega arith))
-
 -- ---- waiting, time and restart
 
 -- the wait outlasts every lease proposed before it: its ballot's tick is at most S above the clock, and its end at most T later
 pub wait-outlasts : (clock longest spread tick end : ℕ) → tick ≤ clock + spread → end ≤ tick + longest → end ≤ waitEnd clock longest spread
 unfolding waitEnd
 wait-outlasts clock longest spread tick end a b = omega arith
+
+-- a wait ends at clock + T + S
+pub wait-is : (clock longest spread : ℕ) → waitEnd clock longest spread ≡ clock + longest + spread
+unfolding waitEnd
+wait-is clock longest spread = refl
 
 -- time drops an accepted lease whose end has come, and no other
 pub data LeaseAged (clock : ℕ) : Accepted → Accepted → Type 0 where
@@ -141,13 +127,10 @@ pub to-propose : (number clock : ℕ) (own : KeepersEnd) (a : Accepted) → ToPr
 unfolding valueToPropose
 to-propose number clock own Accepted.Nothing = free
 to-propose number clock own (Accepted.One l) =
-    by-test P (leb (l .end .0) clock) _ _ (λ t. ended l (leb-true (l .end .0) clock t))
-    (λ _. by-test P (eqb (l .owner) number) _ _
-    (λ o. by-test P (ownIsLater own l) _ _ (λ t. renewed l (eqb-true (l .owner) number o) (leb-true (l .end .0) (own .0) t)) (λ _. kept l))
+    by-test (ToPropose number clock own (Accepted.One l)) (leb (l .end .0) clock) _ _ (λ t. ended l (leb-true (l .end .0) clock t))
+    (λ _. by-test (ToPropose number clock own (Accepted.One l)) (eqb (l .owner) number) _ _
+    (λ o. by-test (ToPropose number clock own (Accepted.One l)) (ownIsLater own l) _ _ (λ t. renewed l (eqb-true (l .owner) number o) (leb-true (l .end .0) (own .0) t)) (λ _. kept l))
     (λ _. kept l))
-  where
-    P : Value → Type 0
-    P c = ToPropose number clock own (Accepted.One l) c
 
 -- ---- propose request
 

@@ -9,6 +9,7 @@ use Rattle.quorum.specs.Sets.{cellFits, isBelow}
 use Rattle.message.specs.declared.Sizes.{Sizes}
 use Rattle.message.specs.declared.Ballot.{Ballot}
 use Rattle.message.specs.Message.{lastTick, lastEnd}
+use Rattle.message.specs.Faults.{sizes}
 use Rattle.rules.specs.declared.Accepted.{Accepted}
 use Rattle.rules.specs.declared.Promised.{Promised}
 use Rattle.rules.specs.declared.LastBallot.{LastBallot}
@@ -25,7 +26,7 @@ lastLongest = 2 ^ 31
 
 -- what whoever reads or writes a cell's frames is handed
 abbrev pub sizesOf : Settings → Sizes
-sizesOf s = record { n = s .n }
+sizesOf s = sizes (s .n)
 
 -- the fields that a refusal of opening may be found at: n, T, S, and the clock that it sets
 pub data OpeningField : Type 0 where

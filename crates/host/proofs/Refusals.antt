@@ -1,4 +1,4 @@
--- What holds where a step refuses nothing, and that a reply of a host that was counted changes nothing. Assumes nothing.
+-- What a step that refuses nothing tells of its host and of what it is handed, and that a reply of a host that was counted changes nothing. Assumes nothing.
 use mathlib.Core.Path.{_≡_, refl, sym, ap, _∙_}
 use mathlib.Core.Bool.{Bool, true, false, cond, not}
 use mathlib.Core.List.{[]}
