@@ -7,7 +7,8 @@ use Rattle.message.specs.Message.{targetOf}
 use Rattle.host.specs.declared.Host.{Host}
 use Rattle.host.specs.declared.Stepped.{Stepped}
 use Rattle.host.specs.Steps.{advancedHost, restartedHost}
-use Rattle.host.proofs.Outcomes.{begins, gets, Stays, stays-step}
+use Rattle.host.specs.Claims.{Stays}
+use Rattle.host.proofs.Outcomes.{begins, gets, stays-step}
 use Rattle.slots.specs.declared.Slot.{Slot}
 use Rattle.slots.specs.declared.Content.{Content}
 use Rattle.cell.specs.declared.Cell.{Cell}

@@ -7,7 +7,7 @@ use mathlib.Core.Path.{_≡_, refl, sym, ap, subst, _∙_}
 use mathlib.Core.Logic.{_⊎_, inl, inr}
 use mathlib.Core.Bool.{true}
 use mathlib.Core.Option.{none, some}
-use borrow.Author.Tests.{ltb-true, ltb-false, leb-false}
+use borrow.Author.Tests.{ltb-true, leb-false}
 use Rattle.base.specs.Refusals.{done}
 use Rattle.quorum.specs.Sets.{bit, withHost, isBelow}
 use Rattle.quorum.proofs.Majorities.{with-other}
@@ -39,7 +39,8 @@ use Rattle.host.specs.Steps.{quietWith, sendingWith, withRound, withNamed, head
 use Rattle.state.proofs.StateLimits.{settings-in, ballot-in, accepted-in, state-in}
 use Rattle.host.proofs.HostLimits.{HostIn}
 use Rattle.host.proofs.Refusals.{start-in}
-use Rattle.host.proofs.Outcomes.{Reply, empty, lease, Cause, begins, gets, stepOn, proposal, Heard, Voted, Chosen, Outcome, nothing, begun, promised, heard, proposed, gaveUp, accepted, countedVote, named, namedAlone, told, outcome, proposes, naming, news}
+use Rattle.host.specs.Claims.{namingHost}
+use Rattle.host.proofs.Outcomes.{Reply, empty, lease, Cause, begins, gets, stepOn, proposal, Heard, Voted, Chosen, Outcome, nothing, begun, promised, heard, proposed, gaveUp, accepted, countedVote, named, namedAlone, told, outcome, proposes, news}
 use Rattle.host.proofs.Within.{reply-in, asking-held, counted-in, voted-in}
 use Rattle.theory.specs.Ballots as N
 use Rattle.theory.specs.Model as M
@@ -152,15 +153,15 @@ module _ (s : Settings) (h : Host) {w : World (setup s)} (e : Stands s w (h .num
       acted-once s e _ (some (asMessage (news s h k)))
       (M.tell (code (p .ballot)) (p .owner) (p .end .0) (k .end .0) (p .replied) (ap (asRound s) z) j (sym (R.namable (h .clock) (s .spread) (p .end) t .1))) refl with-new
 
-  names-idle : Acted s (tells .now) (h .number) (quietWith (naming s h p))
+  names-idle : Acted s (tells .now) (h .number) (quietWith (namingHost s h p))
   names-idle =
       let a = names s h (tells .stands) k (tells .sent) (R.namable (h .clock) (s .spread) (p .end) t .0) refl (R.naming k (h .state .named)) in
       acted-then s a (gives-up s (withNamed h (h .state .round) (namedBy (h .state .named) k)) (a .stands))
 
-  names-alone : Acted s w (h .number) (quietWith (naming s h p))
+  names-alone : Acted s w (h .number) (quietWith (namingHost s h p))
   names-alone = acted-then s tells names-idle
 
-  names-and-tells : (set : ℕ) → Acted s w (h .number) (sendingWith (naming s h p) (news s h k) set)
+  names-and-tells : (set : ℕ) → Acted s w (h .number) (sendingWith (namingHost s h p) (news s h k) set)
   names-and-tells set = acted-then s tells (acted-then s names-idle (rested s _ (names-idle .stands) (names-idle .kept _ (tells .sent))))
 
 -- ---- every outcome
@@ -204,8 +205,8 @@ module _ (s : Settings) (h : Host) (i : HostIn s h) {w : World (setup s)} (e : S
       (M.start _ d 0 (omega (arith, i .number, few)) (omega (arith, i .number, few)) nobody (p .awake) (last-fresh (h .state .last) (h .clock) (p .fresh)) (p .some-time) (p .duration)) refl with-new
   acts-by (promised m g awake t) =
       acted-once s e _ (some (asMessage (responseWith (headFrom h (m .ballot)) (h .state .accepted))))
-      (rw (response (headFrom h (m .ballot)) (h .state .accepted)) (M.promise (code (m .ballot)) (g .1) (ltb-false (h .clock) (h .wait) awake) (promised-above (s .n) (h .state .promised) (m .ballot) few may-promise t))) refl with-new
-  acts-by (heard a d reply x) = hears a d reply x
+      (rw (response (headFrom h (m .ballot)) (h .state .accepted)) (M.promise (code (m .ballot)) (g .1) (R.awake (h .clock) (h .wait) awake) (promised-above (s .n) (h .state .promised) (m .ballot) few may-promise t))) refl with-new
+  acts-by (heard a d reply x _) = hears a d reply x
   acts-by (proposed a d reply x t) =
       let r = reply-in s (x .is) (x .got .0) in
       let j = counted-in s h i a d reply (x .round) (r .0) (r .1) in
@@ -215,9 +216,9 @@ module _ (s : Settings) (h : Host) (i : HostIn s h) {w : World (setup s)} (e : S
   acts-by gaveUp = gives-up s h e
   acts-by (accepted m g awake t) =
       acted-once s e _ (some _)
-      (rw (R.accept-promises (leaseOf m) .0, R.accept-promises (leaseOf m) .1) (M.accept (code (m .head .ballot)) (m .owner) (m .end .0) (g .1) (ltb-false (h .clock) (h .wait) awake) (R.accept-live (h .state .promised) (h .clock) (leaseOf m) t)
+      (rw (R.accept-promises (leaseOf m) .0, R.accept-promises (leaseOf m) .1) (M.accept (code (m .head .ballot)) (m .owner) (m .end .0) (g .1) (R.awake (h .clock) (h .wait) awake) (R.accept-live (h .state .promised) (h .clock) (leaseOf m) t)
       (promised-not-below (s .n) (h .state .promised) (h .clock) (leaseOf m) few may-promise t))) refl with-new
-  acts-by (countedVote p d x) = counts-vote p d x
+  acts-by (countedVote p d x _) = counts-vote p d x
   acts-by (named p d x) =
       let a = counts-vote p d (x .vote) in
       acted-then s a (names-and-tells s (withRound h (Round.Proposing (proposingAfter p (d .sender)))) (a .stands) (proposingAfter p (d .sender)) refl (voted-majority p d x) (x .namable) _)

@@ -22,7 +22,8 @@ use Rattle.host.proofs.HostLimits.{host-in}
 use Rattle.host.proofs.Writable.{writable-each}
 use Rattle.host.proofs.Refusals.{restart-in}
 use Rattle.host.proofs.Within.{Fine, fine-restart, fine-advance, fine-step}
-use Rattle.host.proofs.Outcomes.{begins, gets, Stays, stays-step}
+use Rattle.host.specs.Claims.{Stays}
+use Rattle.host.proofs.Outcomes.{begins, gets, stays-step}
 use Rattle.places.specs.Places.{blankHost, newHost}
 use Rattle.places.specs.Parts.{Opens}
 use Rattle.places.proofs.Opening.{new-blank, new-at, new-fits}

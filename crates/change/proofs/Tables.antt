@@ -159,13 +159,13 @@ module _ (c : Cell) (z : Sized c) (o : cellOk c ≡ true) where
   one-refusal h d =
       let s = c .settings in
       let x = hostAt c h in
-      host-row h (change (advanceOf s x d) false) (advanceRefusal s x d) _ (lawful-advance s x d .answer)
+      host-row h (change (advanceOf s x d) false) (advanceRefusal s x d) _ (lawful-advance s x d .number)
       (λ e. first-same (unless (clocksNear (withHost c h (advancedHost x d))) refusedSpread) [] _ (λ _. sym (first-next _ [] (quiet-full (slotsAfter c 0 (change (quietWith (advancedHost x d)) false)) (advancedHost x d))))
-      ∙ ap (λ (y : Stepped). firstOf (tail 0 h (change y false))) (sym (lawful-advance s x d .done e)))
+      ∙ ap (λ (y : Stepped). firstOf (tail 0 h (change y false))) (sym (lawful-advance s x d .carried-out e)))
 
   one-after : (h d : ℕ) → advanceOneRefusal c h d ≡ done → advancedOne c h d ≡ changed c 0 h (change (advanceOf (c .settings) (hostAt c h) d) false)
   unfolding advanceOneRefusal advancedOne stepped sentTo
-  one-after h d = host-after h _ _ _ (quietWith (advancedHost (hostAt c h) d)) (lawful-advance (c .settings) (hostAt c h) d .done)
+  one-after h d = host-after h _ _ _ (quietWith (advancedHost (hostAt c h) d)) (lawful-advance (c .settings) (hostAt c h) d .carried-out)
 
   start-refusal : (h d : ℕ) → startAtRefusal c h d ≡ changeRefusal c 0 h (change (startOf (c .settings) (hostAt c h) d) false)
   unfolding startAtRefusal
@@ -173,14 +173,14 @@ module _ (c : Cell) (z : Sized c) (o : cellOk c ≡ true) where
       let s = c .settings in
       let x = hostAt c h in
       let step = onStart s x d in
-      host-row h (change (startOf s x d) false) (startRefusal s x d) _ (lawful-start s x d .answer)
+      host-row h (change (startOf s x d) false) (startRefusal s x d) _ (lawful-start s x d .number)
       (λ e. first-only (stepFull (c .slots) step) ∙ ap (λ (ss : List Slot). stepFull ss step) (sym (keeps (c .slots) 0))
       ∙ sym (still-passed 0 h (change step false) (stays-step s x (begins d) .clock))
-      ∙ ap (λ (y : Stepped). firstOf (tail 0 h (change y false))) (sym (lawful-start s x d .done e)))
+      ∙ ap (λ (y : Stepped). firstOf (tail 0 h (change y false))) (sym (lawful-start s x d .carried-out e)))
 
   start-after : (h d : ℕ) → startAtRefusal c h d ≡ done → stepped c h (c .slots) (startStep c h d) ≡ changed c 0 h (change (startOf (c .settings) (hostAt c h) d) false)
   unfolding startAtRefusal
-  start-after h d = host-after h _ _ _ (startStep c h d) (lawful-start (c .settings) (hostAt c h) d .done)
+  start-after h d = host-after h _ _ _ (startStep c h d) (lawful-start (c .settings) (hostAt c h) d .carried-out)
 
   restart-refusal : (h : ℕ) → restartAtRefusal c h ≡ changeRefusal c 0 h (change (restartOf (c .settings) (hostAt c h)) false)
   unfolding restartAtRefusal restartedHost firstOf
@@ -188,12 +188,12 @@ module _ (c : Cell) (z : Sized c) (o : cellOk c ≡ true) where
       let s = c .settings in
       let x = hostAt c h in
       let k = change (quietWith (restartedHost s x)) false in
-      host-row h (change (restartOf s x) false) (restartRefusal s x) [] (lawful-restart s x .answer)
-      (λ e. sym (still-passed 0 h k refl ∙ quiet-full (slotsAfter c 0 k) (restartedHost s x)) ∙ ap (λ (y : Stepped). firstOf (tail 0 h (change y false))) (sym (lawful-restart s x .done e)))
+      host-row h (change (restartOf s x) false) (restartRefusal s x) [] (lawful-restart s x .number)
+      (λ e. sym (still-passed 0 h k refl ∙ quiet-full (slotsAfter c 0 k) (restartedHost s x)) ∙ ap (λ (y : Stepped). firstOf (tail 0 h (change y false))) (sym (lawful-restart s x .carried-out e)))
 
   restart-after : (h : ℕ) → restartAtRefusal c h ≡ done → withHost c h (restartedHost (c .settings) (hostAt c h)) ≡ changed c 0 h (change (restartOf (c .settings) (hostAt c h)) false)
   unfolding restartAtRefusal stepped sentTo
-  restart-after h = host-after h _ _ _ (quietWith (restartedHost (c .settings) (hostAt c h))) (lawful-restart (c .settings) (hostAt c h) .done)
+  restart-after h = host-after h _ _ _ (quietWith (restartedHost (c .settings) (hostAt c h))) (lawful-restart (c .settings) (hostAt c h) .carried-out)
 
   -- ---- deliver, lose, repeat: by what the slot holds
 
@@ -212,7 +212,7 @@ module _ (c : Cell) (z : Sized c) (o : cellOk c ≡ true) where
         message-passed (c .settings) (hostAt c (targetOf m)) m (j .host (targetOf m) b) (message-of c i m o e) (sym (j .number (targetOf m) b))
 
     steps : (m : Message) → contentAt c i ≡ Content.One m → receiveOf (c .settings) (hostAt c (targetOf m)) m ≡ deliverStep c m
-    steps m e = lawful-message (c .settings) (hostAt c (targetOf m)) m .done (passed m e)
+    steps m e = lawful-message (c .settings) (hostAt c (targetOf m)) m .carried-out (passed m e)
 
     deliver-refusal : (t : Content) → contentAt c i ≡ t → firstOf (unless (cellOk c) refusedCell ∷ slotRefusal i t ∷ deliverFull c i t ∷ []) ≡ changeRefusal c i (targetIn t) (delivers t)
     unfolding deliverFull deliverChange slotAfter isEmpty firstOf
@@ -225,7 +225,7 @@ module _ (c : Cell) (z : Sized c) (o : cellOk c ≡ true) where
         (first-only (stepFull (freed (c .slots) i) (deliverStep c m))
         ∙ sym (still-passed i h k (stays-step s (hostAt c h) (gets m) .clock))
         ∙ ap (λ (y : Stepped). firstOf (tail i h (change y true))) (sym (steps m e))
-        ∙ sym (first-next (receiveOf s (hostAt c h) m .answer) (tail i h (delivers (Content.One m))) (lawful-message s (hostAt c h) m .answer ∙ passed m e)))
+        ∙ sym (first-next (receiveOf s (hostAt c h) m .answer) (tail i h (delivers (Content.One m))) (lawful-message s (hostAt c h) m .number ∙ passed m e)))
 
     deliver-after : (t : Content) → contentAt c i ≡ t → delivered c i t ≡ changed c i (targetIn t) (delivers t)
     unfolding delivered deliverChange slotAfter

@@ -4,3 +4,4 @@ pub mod Refusals
 pub mod Outcomes
 pub mod Within
 pub mod Majority
+pub mod Claims

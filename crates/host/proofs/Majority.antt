@@ -16,7 +16,8 @@ use Rattle.state.specs.declared.Proposing.{Proposing}
 use Rattle.state.specs.declared.Round.{Round}
 use Rattle.host.specs.declared.Host.{Host}
 use Rattle.host.specs.declared.Stepped.{Stepped}
-use Rattle.host.specs.Steps.{quietWith, holderOf, onNaming, onChosen, proposingAfter, onCountedVote, onVote, onProposeResponse, onMessage, onDelivery, receiveRefusal, receiveOf, withNamed, decides, isDecidingVote, namedByMajority}
+use Rattle.host.specs.Steps.{quietWith, holderOf, onNaming, onChosen, proposingAfter, onCountedVote, onVote, onProposeResponse, onMessage, onDelivery, receiveRefusal, receiveOf, withNamed}
+use Rattle.host.specs.Claims.{decides, isDecidingVote, namedByMajority, namingHost}
 
 -- naming hands on the host that it is given
 naming-host : (s : Settings) (h : Host) (p : Proposing) (after : Host) → onNaming s h (holderOf s p) after .host ≡ after
@@ -28,15 +29,15 @@ naming-host s h p after = go (eqb (s .n) 1) _ refl
     go false x e = e
 
 -- the proposing round of a host, if its majority has named by this vote
-named-round : (s : Settings) (h : Host) (r : Round) (m : Head) → decides s h r m ≡ true → (p : Proposing) × (r ≡ Round.Proposing p) × (onProposeResponse s h r m .host ≡ withNamed h Round.Idle (namedBy (h .state .named) (holderOf s p)))
+named-round : (s : Settings) (h : Host) (r : Round) (m : Head) → decides s h r m ≡ true → (p : Proposing) × (r ≡ Round.Proposing p) × (onProposeResponse s h r m .host ≡ namingHost s h p)
 unfolding All decides onProposeResponse onVote onCountedVote onChosen proposingAfter
 named-round s h Round.Idle m e = true-false (sym e)
 named-round s h (Round.Asking a) m e = true-false (sym e)
 named-round s h (Round.Proposing p) m e =
     let q = all-of-in _ e in
-    (p, refl, rw (q .0, q .1 .0, q .1 .1 .0, q .1 .1 .1 .0) (naming-host s h p (withNamed h Round.Idle (namedBy (h .state .named) (holderOf s p)))))
+    (p, refl, rw (q .0, q .1 .0, q .1 .1 .0, q .1 .1 .1 .0) (naming-host s h p (namingHost s h p)))
 
-voted-message : (s : Settings) (h : Host) (m : Message) → isDecidingVote s h m ≡ true → (p : Proposing) × (h .state .round ≡ Round.Proposing p) × (onMessage s h m .host ≡ withNamed h Round.Idle (namedBy (h .state .named) (holderOf s p)))
+voted-message : (s : Settings) (h : Host) (m : Message) → isDecidingVote s h m ≡ true → (p : Proposing) × (h .state .round ≡ Round.Proposing p) × (onMessage s h m .host ≡ namingHost s h p)
 unfolding isDecidingVote onMessage
 voted-message s h (ProposeResponse m) e = named-round s h (h .state .round) m e
 voted-message s h (PrepareRequest m) e = true-false (sym e)
@@ -51,7 +52,7 @@ step-message s h m a b = rw (a, b)
 
 -- such a step ends the host's proposing round and names the owner of its proposal, replacing or not
 pub majority-names : (s : Settings) (h : Host) (m : Message) → namedByMajority s h m ≡ true
-    → (p : Proposing) × (h .state .round ≡ Round.Proposing p) × (receiveOf s h m .host ≡ withNamed h Round.Idle (namedBy (h .state .named) (holderOf s p)))
+    → (p : Proposing) × (h .state .round ≡ Round.Proposing p) × (receiveOf s h m .host ≡ namingHost s h p)
 unfolding namedByMajority All
 majority-names s h m e =
     let q = all-of-in _ e in

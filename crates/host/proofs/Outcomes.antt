@@ -24,6 +24,7 @@ use Rattle.state.specs.declared.Round.{Round}
 use Rattle.host.specs.declared.Host.{Host}
 use Rattle.host.specs.declared.Stepped.{Stepped}
 use Rattle.host.specs.Steps.{quietWith, sendingWith, withRound, withVote, withNamed, headFrom, onStart, responseWith, onPrepareRequest, askingAfter, proposedValue, onMajority, onCountedReply, onReply, onPrepareResponse, leaseOf, onProposeRequest, proposingAfter, holderOf, onNaming, onChosen, onCountedVote, onVote, onProposeResponse, learnedHolder, onLearn, onMessage, onDelivery}
+use Rattle.host.specs.Claims.{Stays, namingHost}
 
 -- the message is a reply with this head that tells of this lease, or of none
 pub data Reply : Message → Head → Accepted → Type 0 where
@@ -41,10 +42,7 @@ module _ (s : Settings) (h : Host) where
   stepOn (begins d) = onStart s h d
   stepOn (gets m) = onDelivery s h m
 
-  -- the host that names the holder of a chosen lease, and what it tells the others
-  abbrev pub naming : Proposing → Host
-  naming p = withNamed h Round.Idle (namedBy (h .state .named) (holderOf s p))
-
+  -- what the host that names the holder of a chosen lease tells the others
   abbrev pub news : Holder → Message
   news k = Learn (record { head = headFrom h (k .ballot); owner = k .owner; end = k .end })
 
@@ -83,7 +81,9 @@ module _ (s : Settings) (h : Host) (Known : Cause → Type 0) where
     promised :
         (m : Head) → Known (gets (PrepareRequest m)) → isWaiting (h .clock) (h .wait) ≡ false → mayPromise (h .state .promised) (m .ballot) ≡ true →
         Outcome (sendingWith (withVote h (Promised.To (m .ballot)) (h .state .accepted)) (responseWith (headFrom h (m .ballot)) (h .state .accepted)) (singleOf (m .ballot .host)))
-    heard : (a : Asking) (d : Head) (reply : Accepted) → Heard a d reply → Outcome (quietWith (withRound h (Round.Asking (askingAfter a (d .sender) reply))))
+    heard :
+        (a : Asking) (d : Head) (reply : Accepted) → Heard a d reply → actsOn (s .n) (a .replied) (askingAfter a (d .sender) reply .replied) ≡ false →
+        Outcome (quietWith (withRound h (Round.Asking (askingAfter a (d .sender) reply))))
     proposed :
         (a : Asking) (d : Head) (reply : Accepted) → Heard a d reply → actsOn (s .n) (a .replied) (askingAfter a (d .sender) reply .replied) ≡ true →
         Outcome (sendingWith (withRound h (Round.Proposing (proposes s h (askingAfter a (d .sender) reply)))) (proposal s h (askingAfter a (d .sender) reply)) (everyoneOf (s .n)))
@@ -91,9 +91,11 @@ module _ (s : Settings) (h : Host) (Known : Cause → Type 0) where
     accepted :
         (m : Proposal) → Known (gets (ProposeRequest m)) → isWaiting (h .clock) (h .wait) ≡ false → mayAccept (h .state .promised) (h .clock) (leaseOf m) ≡ true →
         Outcome (sendingWith (withVote h (afterAccept (leaseOf m) .promised) (afterAccept (leaseOf m) .accepted)) (ProposeResponse (headFrom h (m .head .ballot))) (singleOf (m .head .ballot .host)))
-    countedVote : (p : Proposing) (d : Head) → Voted p d → Outcome (quietWith (withRound h (Round.Proposing (proposingAfter p (d .sender)))))
-    named : (p : Proposing) (d : Head) → Chosen p d → Outcome (sendingWith (naming s h (proposingAfter p (d .sender))) (news s h (holderOf s (proposingAfter p (d .sender)))) (othersOf (s .n) (h .number)))
-    namedAlone : (p : Proposing) (d : Head) → Chosen p d → Outcome (quietWith (naming s h (proposingAfter p (d .sender))))
+    countedVote :
+        (p : Proposing) (d : Head) → Voted p d → actsOn (s .n) (p .replied) (proposingAfter p (d .sender) .replied) ≡ false →
+        Outcome (quietWith (withRound h (Round.Proposing (proposingAfter p (d .sender)))))
+    named : (p : Proposing) (d : Head) → Chosen p d → Outcome (sendingWith (namingHost s h (proposingAfter p (d .sender))) (news s h (holderOf s (proposingAfter p (d .sender)))) (othersOf (s .n) (h .number)))
+    namedAlone : (p : Proposing) (d : Head) → Chosen p d → Outcome (quietWith (namingHost s h (proposingAfter p (d .sender))))
     told : (m : LearnedLease) → Known (gets (Learn m)) → leb (m .end .0) (h .clock) ≡ false → Outcome (quietWith (withNamed h (h .state .round) (namedBy (h .state .named) (learnedHolder m))))
 
   -- ---- every step has one of them
@@ -110,7 +112,7 @@ module _ (s : Settings) (h : Host) (Known : Cause → Type 0) where
       (λ _. by-test Outcome (hasEnded (h .clock) reply) _ _ (λ _. nothing)
       (λ _. by-test Outcome (actsOn (s .n) (a .replied) (b .replied)) _ _
       (λ t. by-test Outcome (leb (proposedValue s h b .end .0) (h .clock)) _ _ (λ _. gaveUp) (λ _. proposed a d reply x t))
-      (λ _. heard a d reply x)))
+      (λ t. heard a d reply x t)))
       (λ _. nothing))
       (λ _. nothing)
     where
@@ -132,7 +134,7 @@ module _ (s : Settings) (h : Host) (Known : Cause → Type 0) where
       let y : Chosen p d = record { vote = x; reaches = t; namable = u } in
       by-test Outcome (eqb (s .n) 1) _ _ (λ _. namedAlone p d y) (λ _. named p d y))
       (λ _. gaveUp))
-      (λ _. countedVote p d x))
+      (λ t. countedVote p d x t))
       (λ _. nothing))
       (λ _. nothing)
     where
@@ -155,21 +157,16 @@ module _ (s : Settings) (h : Host) (Known : Cause → Type 0) where
 
 -- ---- a step leaves a host its number, its clock and its wait
 
-pub record Stays (h : Host) (step : Stepped) : Type 0 where
-  pub number : step .host .number ≡ h .number
-  pub clock : step .host .clock ≡ h .clock
-  pub wait : step .host .wait ≡ h .wait
-
 stays : {s : Settings} {h : Host} {Known : Cause → Type 0} {t : Stepped} → Outcome s h Known t → Stays h t
 unfolding onStart
 stays nothing = record { number = refl; clock = refl; wait = refl }
 stays (begun d _) = record { number = refl; clock = refl; wait = refl }
 stays (promised m _ _ _) = record { number = refl; clock = refl; wait = refl }
-stays (heard a d r _) = record { number = refl; clock = refl; wait = refl }
+stays (heard a d r _ _) = record { number = refl; clock = refl; wait = refl }
 stays (proposed a d r _ _) = record { number = refl; clock = refl; wait = refl }
 stays gaveUp = record { number = refl; clock = refl; wait = refl }
 stays (accepted m _ _ _) = record { number = refl; clock = refl; wait = refl }
-stays (countedVote p d _) = record { number = refl; clock = refl; wait = refl }
+stays (countedVote p d _ _) = record { number = refl; clock = refl; wait = refl }
 stays (named p d _) = record { number = refl; clock = refl; wait = refl }
 stays (namedAlone p d _) = record { number = refl; clock = refl; wait = refl }
 stays (told m _ _) = record { number = refl; clock = refl; wait = refl }

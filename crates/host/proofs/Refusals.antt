@@ -5,7 +5,7 @@ use mathlib.Core.List.{[]}
 use Prim.Native.Nat.{ℕ, _+_, _≤_}
 use native.Mathlib.Omega.{arith}
 use lib.Dec.{leb, eqb}
-use borrow.Author.Tests.{ltb-false, leb-true, eqb-true, eqb-false, not-true, eq-eqb}
+use borrow.Author.Tests.{leb-true, eqb-true, eqb-false, not-true, eq-eqb}
 use Rattle.base.specs.Refusals.{done, firstOf, refusedCell, refusedWaiting, refusedDuration, refusedSameTick, refusedClock}
 use Rattle.base.proofs.Tests.{by-test, first-passed, unless-passed}
 use Rattle.quorum.specs.Sets.{isIn}
@@ -17,6 +17,7 @@ use Rattle.message.specs.Message.{lastTick, isSame, numbersOf}
 use Rattle.message.specs.Faults.{faultOf}
 use Rattle.rules.specs.declared.Accepted.{Accepted}
 use Rattle.rules.specs.Rules.{isWaiting, isFresh}
+use Rattle.rules.proofs.Laws.{awake}
 use Rattle.state.specs.declared.Settings.{Settings}
 use Rattle.state.specs.declared.Asking.{Asking}
 use Rattle.state.specs.declared.Proposing.{Proposing}
@@ -59,7 +60,7 @@ start-in s h d e =
     let some = eqb-false d 0 (not-true (eqb d 0) (p3 .0)) in
     record {
       host = host-in s h (p1 .0);
-      awake = ltb-false (h .clock) (h .wait) (not-true (isWaiting (h .clock) (h .wait)) (p2 .0));
+      awake = awake (h .clock) (h .wait) (not-true (isWaiting (h .clock) (h .wait)) (p2 .0));
       some-time = omega (arith, some);
       duration = leb-true (d + s .spread) (s .longest) (p4 .0);
       fresh = p5 .0;

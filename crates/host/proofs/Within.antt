@@ -35,10 +35,11 @@ use Rattle.state.proofs.RulesKeep.{aged-in, kept-higher, kept-replied, value-in
 use Rattle.host.specs.declared.Host.{Host}
 use Rattle.host.specs.declared.Stepped.{Stepped}
 use Rattle.host.specs.Steps.{lastWait, hostOk, refusedWith, quietWith, sendingWith, stepWith, withState, withRound, withVote, withNamed, advanceRefusal, advancedHost, advanceOf, restartRefusal, restartedHost, restartOf, startRefusal, onStart, startOf, askingAfter, proposedValue, leaseOf, proposingAfter, holderOf, learnedHolder, onDelivery, receiveRefusal, receiveOf}
+use Rattle.host.specs.Claims.{writes, Writable, Lawful, namingHost}
 use Rattle.host.proofs.HostLimits.{HostIn, out-host}
-use Rattle.host.proofs.Writable.{writes, Writable, writes-request, writes-response, writes-proposal, writes-vote, writes-learn}
+use Rattle.host.proofs.Writable.{writes-request, writes-response, writes-proposal, writes-vote, writes-learn}
 use Rattle.host.proofs.Refusals.{advance-in, restart-in, start-in, message-in}
-use Rattle.host.proofs.Outcomes.{Reply, empty, lease, Cause, begins, gets, stepOn, Heard, Voted, Outcome, nothing, begun, promised, heard, proposed, gaveUp, accepted, countedVote, named, namedAlone, told, outcome, proposes, naming}
+use Rattle.host.proofs.Outcomes.{Reply, empty, lease, Cause, begins, gets, stepOn, Heard, Voted, Outcome, nothing, begun, promised, heard, proposed, gaveUp, accepted, countedVote, named, namedAlone, told, outcome, proposes}
 
 -- ---- a host with a part of it replaced
 
@@ -164,7 +165,7 @@ module _ (s : Settings) (h : Host) (i : HostIn s h) where
   vote-in p d x = voted-in p d (x .round) (fault-passed (sizesOf s) (numbersOf (ProposeResponse d)) (x .got) .sender)
 
   -- the host that names the holder of a chosen lease, and the holder
-  chosen-in : (p : Proposing) → ProposingIn s (h .number) p → hostOk s (naming s h p) ≡ true × LeaseIn (s .n) (p .ballot) (p .owner) (p .end .0 - s .spread)
+  chosen-in : (p : Proposing) → ProposingIn s (h .number) p → hostOk s (namingHost s h p) ≡ true × LeaseIn (s .n) (p .ballot) (p .owner) (p .end .0 - s .spread)
   chosen-in p j =
       let q = j .lease in
       let l : LeaseIn (s .n) (p .ballot) (p .owner) (p .end .0 - s .spread) = record { tick = q .tick; host = q .host; owner = q .owner; end = omega (arith, q .end) } in
@@ -183,7 +184,7 @@ module _ (s : Settings) (h : Host) (i : HostIn s h) where
       let q = fault-passed (sizesOf s) (numbersOf (PrepareRequest m)) g in
       let b : BallotIn (s .n) (m .ballot) = record { tick = q .ballotTick; host = q .ballotHost } in
       fine-sending s _ _ (singleOf (m .ballot .host)) (kept-vote s h _ _ i (promised-ok (s .n) (m .ballot) b) (held .accepted)) (writes-response s h (m .ballot) (h .state .accepted) i b (held .accepted))
-  fine (heard a d reply x) = fine-quiet s _ (kept-round s h _ i (out-asking s (h .number) _ (i .number) (heard-in a d reply x)))
+  fine (heard a d reply x _) = fine-quiet s _ (kept-round s h _ i (out-asking s (h .number) _ (i .number) (heard-in a d reply x)))
   fine (proposed a d reply x _) =
       let j = heard-in a d reply x in
       let b = askingAfter a (d .sender) reply in
@@ -198,7 +199,7 @@ module _ (s : Settings) (h : Host) (i : HostIn s h) where
       let a = out-accepted (s .n) (leaseOf m) (record { tick = q .ballotTick; host = q .ballotHost; owner = q .owner; end = q .keepersEnd }) in
       let v = R.accept-promises (leaseOf m) in
       fine-sending s _ _ (singleOf (m .head .ballot .host)) (kept-vote s h _ _ i (rw (v .0) (promised-ok (s .n) (m .head .ballot) b)) (rw (v .1) a)) (writes-vote s h (m .head .ballot) i b)
-  fine (countedVote p d x) = fine-quiet s _ (kept-round s h _ i (out-proposing s (h .number) _ (vote-in p d x)))
+  fine (countedVote p d x _) = fine-quiet s _ (kept-round s h _ i (out-proposing s (h .number) _ (vote-in p d x)))
   fine (named p d x) =
       let j = vote-in p d (x .vote) in
       let c = chosen-in (proposingAfter p (d .sender)) j in
@@ -209,25 +210,14 @@ module _ (s : Settings) (h : Host) (i : HostIn s h) where
       let l = out-named (s .n) (learnedHolder m) (record { tick = q .ballotTick; host = q .ballotHost; owner = q .owner; end = q .holdersEnd }) in
       fine-quiet s _ (kept-named s h (h .state .round) _ i (held .round) (kept-naming (s .n) (R.naming (learnedHolder m) (h .state .named)) (held .named) l))
 
--- ---- every step, of which k is what it is refused by, if not 0, and `step` what is done else
-
-pub record Lawful (s : Settings) (h : Host) (k : ℕ) (step result : Stepped) : Type 0 where
-  -- a refused step changes nothing and sends nothing
-  pub unchanged : (k ≡ done → ⊥) → result ≡ refusedWith k h
-  pub done : k ≡ done → result ≡ step
-  -- its answer is the refusal's number, or 0
-  pub answer : result .answer ≡ k
-  -- a host within its limits stays within them
-  pub kept : hostOk s h ≡ true → hostOk s (result .host) ≡ true
-  -- writing refuses nothing in what it sends
-  pub writable : Writable s result
+-- ---- every step, refused or done
 
 lawful : (s : Settings) (k : ℕ) (h : Host) (step : Stepped) → (k ≡ done → Fine s step) → Lawful s h k step (stepWith k h step)
 unfolding writes
 lawful s k h step f = record {
   unchanged = λ e. rw (ne-eqb k done e);
-  done = λ e. rw (eq-eqb k done e);
-  answer = by-test (λ (x : Stepped). x .answer ≡ k) (eqb k done) step (refusedWith k h) (λ p. let e = eqb-true k done p in f e .answer ∙ sym e) (λ _. refl);
+  carried-out = λ e. rw (eq-eqb k done e);
+  number = by-test (λ (x : Stepped). x .answer ≡ k) (eqb k done) step (refusedWith k h) (λ p. let e = eqb-true k done p in f e .answer ∙ sym e) (λ _. refl);
   kept = λ o. by-test (λ (x : Stepped). hostOk s (x .host) ≡ true) (eqb k done) step (refusedWith k h) (λ p. f (eqb-true k done p) .kept) (λ _. o);
   writable = by-test (Writable s) (eqb k done) step (refusedWith k h) (λ p. f (eqb-true k done p) .writable) (λ _. tt);
 }

@@ -29,22 +29,16 @@ use Rattle.host.specs.declared.Host.{Host}
 use Rattle.host.specs.declared.Sent.{Sent}
 use Rattle.host.specs.declared.Stepped.{Stepped}
 use Rattle.host.specs.Steps.{headFrom, responseWith}
+use Rattle.host.specs.Claims.{writes, Writable}
 use Rattle.host.proofs.HostLimits.{HostIn}
 
 or-right : (a b : Bool) → b ≡ true → (a || b) ≡ true
 or-right true b q = refl
 or-right false b q = q
 
--- ---- writing to its receivers refuses nothing in what a step sends, if it sends anything
+-- ---- for each receiver
 
-unfoldable pub writes : Settings → Sent → ℕ → Type 0
-writes s Sent.Nothing set = Unit
-writes s (Sent.One m) set = faultTo (sizesOf s) (numbersOf m) set ≡ 0
-
-abbrev pub Writable : Settings → Stepped → Type 0
-Writable s step = writes s (step .sent) (step .receivers)
-
--- then writing accepts it for each of its receivers
+-- what writing to a set accepts it accepts for each host of the set
 pub writable-each : (s : Settings) (step : Stepped) (m : Message) (h : ℕ) → Writable s step → step .sent ≡ Sent.One m → Member (s .n) (step .receivers) h → faultOf (sizesOf s) (numbersOf (addressedTo m h)) ≡ 0
 unfolding writes
 writable-each s step m h w e i = rw (numbers-to m h) (fault-each (sizesOf s) (numbersOf m) (step .receivers) h (rw e at w) i)

@@ -281,30 +281,3 @@ receiveRefusal s h m = firstOf (unless (hostOk s h) refusedCell ∷ faultOf (siz
 
 unfoldable pub receiveOf : Settings → Host → Message → Stepped
 receiveOf s h m = stepWith (receiveRefusal s h m) h (onDelivery s h m)
-
--- ---- named by its own majority
-
--- the vote that makes a proposing round's set a majority, while its lease can still be named
-unfoldable pub decides : Settings → Host → Round → Head → Bool
-decides s h Round.Idle m = false
-decides s h (Round.Asking a) m = false
-decides s h (Round.Proposing p) m =
-    allOf (
-    isSame (p .ballot) (m .ballot)
-    ∷ countsReply (p .replied) (m .sender)
-    ∷ actsOn (s .n) (p .replied) (withHost (p .replied) (m .sender))
-    ∷ isNamable (h .clock) (s .spread) (p .end)
-    ∷ []
-    )
-
-unfoldable pub isDecidingVote : Settings → Host → Message → Bool
-isDecidingVote s h (ProposeResponse m) = decides s h (h .state .round) m
-isDecidingVote s h (PrepareRequest m) = false
-isDecidingVote s h (PrepareResponseEmpty m) = false
-isDecidingVote s h (PrepareResponseLease m) = false
-isDecidingVote s h (ProposeRequest m) = false
-isDecidingVote s h (Learn m) = false
-
--- the step is done, the host is not waiting, and its own majority names a holder by it
-unfoldable pub namedByMajority : Settings → Host → Message → Bool
-namedByMajority s h m = allOf (eqb (receiveRefusal s h m) done ∷ not (isWaiting (h .clock) (h .wait)) ∷ isDecidingVote s h m ∷ [])

@@ -23,7 +23,7 @@ unwaited-in : (s : Settings) (clock i : ℕ) → Opens s clock → i < s .n → 
 unwaited-in s clock i o b = record { settings = o .settings; number = b; clock = o .early; wait = omega arith; state = blank-fits s i }
 
 pub unwaited-restarts : (s : Settings) (clock i : ℕ) → Opens s clock → i < s .n → restartOf s (unwaited clock i) ≡ quietWith (restartedHost s (unwaited clock i))
-unwaited-restarts s clock i o b = lawful-restart s (unwaited clock i) .done (restart-passed s (unwaited clock i) (out-host s (unwaited clock i) (unwaited-in s clock i o b)))
+unwaited-restarts s clock i o b = lawful-restart s (unwaited clock i) .carried-out (restart-passed s (unwaited clock i) (out-host s (unwaited clock i) (unwaited-in s clock i o b)))
 
 -- 'every host waits as after a restart'
 pub new-fits : (s : Settings) (clock i : ℕ) → Opens s clock → i < s .n → (newHost s clock i .number ≡ i) × (newHost s clock i .clock ≡ clock) × (hostOk s (newHost s clock i) ≡ true)

@@ -111,7 +111,7 @@ module _ {s : Settings} {d : ℕ} {start hosts : List Host} {g : ℕ} (p : Advan
     step-is = q ∙ ap (λ (hs : List Host). advanceOf s (getD hs g blankHost) d) (p .moved) ∙ ap (λ (h : Host). advanceOf s h d) (each-above g (λ h. advancedHost h d) start g blankHost (le-refl g))
 
     answer-is : step .answer ≡ advanceRefusal s host d
-    answer-is = ap (λ (x : Stepped). x .answer) step-is ∙ lawful-advance s host d .answer
+    answer-is = ap (λ (x : Stepped). x .answer) step-is ∙ lawful-advance s host d .number
 
     rest-is : advancesRefusal s start d ≡ firstOf (step .answer ∷ map (λ h. advanceRefusal s h d) (drop (g + 1) (take (s .n) start)))
     rest-is =
@@ -124,7 +124,7 @@ module _ {s : Settings} {d : ℕ} {start hosts : List Host} {g : ℕ} (p : Advan
 
     pub advancing-next : step .answer ≡ done → Advancing s d start (set hosts g (step .host)) (g + 1)
     advancing-next e =
-        let moves : step .host ≡ advancedHost host d = ap (λ (x : Stepped). x .host) (step-is ∙ lawful-advance s host d .done (sym answer-is ∙ e)) in
+        let moves : step .host ≡ advancedHost host d = ap (λ (x : Stepped). x .host) (step-is ∙ lawful-advance s host d .carried-out (sym answer-is ∙ e)) in
         record {
           few = p .few;
           long = length-set hosts g (step .host) ∙ p .long;

@@ -1,17 +1,17 @@
 -- Laws of counting: adding a host to a set, a set's size as a sum over the hosts, and that two majorities share a host, with a weight
 -- for each host. Assumes nothing.
 use mathlib.Core.Path.{_≡_, refl, sym, ap, ap₂, _∙_}
-use mathlib.Core.Bool.{true}
+use mathlib.Core.Bool.{true, false}
 use Prim.Native.Nat.{ℕ, zero, suc, _+_, _*_, _/_, _%_, _^_, _<_, max}
-use native.Mathlib.Nat.{one-mul, add-comm, mod-lt, mod-eq-of-lt, not-suc-le-zero, add-zero}
+use native.Mathlib.Nat.{one-mul, div-one, add-comm, mod-lt, mod-eq-of-lt, not-suc-le-zero, add-zero}
 use native.Mathlib.Numerals.{one-add}
 use native.Mathlib.Decide.{decLt}
 use native.Mathlib.Omega.{arith}
 use lib.Arith.{digits-mod}
-use lib.Bits.{bitOr, or-shr, or-step, or-lt}
-use lib.Count.{ones, ones-cat}
-use lib.Pow.{pow-pos, pow-lt, mod-pow-add}
-use borrow.Author.Tests.{leb-true}
+use lib.Bits.{bitOr, or-zero-r, or-shr, or-step, or-lt, shifted-half, shifted-even}
+use lib.Count.{ones, onesIn, ones-step, ones-cat}
+use lib.Pow.{shr-shr, pow-pos, pow-lt, mod-pow-add}
+use borrow.Author.Tests.{leb-true, lt-leb}
 use Rattle.quorum.specs.Sets.{bit, singleOf, withHost, everyoneOf, othersOf, sizeOf, majoritySize, isMajority}
 use Rattle.quorum.proofs.Laws.{bit-le, single-same, single-other}
 
@@ -102,7 +102,43 @@ majorities-meet n s t hs ht ms mt =
       sum-weighed (bit t) n,
     ))
 
+-- nobody is no majority
+pub nobody-short : (n : ℕ) → isMajority n 0 ≡ false
+unfolding isMajority ones onesIn
+nobody-short n = lt-leb (majoritySize n) 0 (omega arith)
+
 -- ---- adding a host
+
+-- by the set's digits, the lowest first
+with-first : (s : ℕ) → withHost s 0 ≡ s / 2 * 2 + 1
+with-first s = or-step s 1 ∙ ap (λ (x : ℕ). x * 2 + max (s % 2) 1) (or-zero-r (s / 2)) ∙ omega (arith, bit-le s 0)
+
+with-next : (s h : ℕ) → withHost s (suc h) ≡ withHost (s / 2) h * 2 + s % 2
+with-next s h =
+    let half : 2 ^ suc h / 2 ≡ 2 ^ h = rw (one-mul (2 ^ suc h), one-mul (2 ^ h)) at (shifted-half 1 h) in
+    let even : 2 ^ suc h % 2 ≡ 0 = rw (one-mul (2 ^ suc h)) at (shifted-even 1 h) in
+    or-step s (2 ^ suc h) ∙ ap₂ (λ (x y : ℕ). bitOr (s / 2) x * 2 + max (s % 2) y) half even ∙ omega arith
+
+bit-next : (s h : ℕ) → bit (s / 2) h ≡ bit s (suc h)
+bit-next s h = ap (λ (x : ℕ). x % 2) (shr-shr s 1 h ∙ ap (λ (k : ℕ). s / 2 ^ k) (omega arith))
+
+-- a host that is in the set is not added again
+pub with-again : (s h : ℕ) → bit s h ≡ 1 → withHost s h ≡ s
+with-again s zero e = with-first s ∙ omega (arith, rw (div-one s) at e)
+with-again s (suc h) e =
+    let r = with-again (s / 2) h (bit-next s h ∙ e) in
+    with-next s h ∙ omega (arith, r)
+
+ones-pair : (q b : ℕ) → b < 2 → ones (q * 2 + b) ≡ ones q + b
+ones-pair q b p = ones-cat 1 q b p ∙ ap (λ (x : ℕ). ones q + x) (ones-bit b p)
+
+-- a host that is not in the set makes it larger by one
+pub with-new : (s h : ℕ) → bit s h ≡ 0 → sizeOf (withHost s h) ≡ sizeOf s + 1
+with-new s zero e =
+    ap ones (with-first s) ∙ ones-pair (s / 2) 1 (omega arith) ∙ omega (arith, rw (div-one s) at e, ones-step s)
+with-new s (suc h) e =
+    let r = with-new (s / 2) h (bit-next s h ∙ e) in
+    ap ones (with-next s h) ∙ ones-pair (withHost (s / 2) h) (s % 2) (omega arith) ∙ omega (arith, r, ones-step s)
 
 max-lt : (a b : ℕ) → a < 2 → b < 2 → max a b < 2
 max-lt a b p q = omega arith

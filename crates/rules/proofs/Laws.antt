@@ -4,7 +4,7 @@ use mathlib.Core.Bool.{Bool, true, false, cond, not}
 use Prim.Native.Nat.{ℕ, _+_, _≤_, _<_}
 use native.Mathlib.Omega.{arith}
 use lib.Dec.{leb, eqb}
-use borrow.Author.Tests.{ltb-true, leb-true, leb-false, eqb-true, not-true, le-leb}
+use borrow.Author.Tests.{ltb-true, ltb-false, leb-true, leb-false, eqb-true, not-true, le-leb}
 use Rattle.base.proofs.Tests.{by-test, true-false}
 use Rattle.quorum.specs.Sets.{withHost, isMajority}
 use Rattle.quorum.proofs.Majorities.{with-same}
@@ -19,7 +19,7 @@ use Rattle.rules.specs.declared.LastBallot.{LastBallot}
 use Rattle.rules.specs.declared.Holder.{Holder}
 use Rattle.rules.specs.declared.Named.{Named}
 use Rattle.rules.specs.declared.Value.{Value}
-use Rattle.rules.specs.Rules.{waitEnd, leaseOver, acceptedAt, holderOver, namedAt, ballotAt, isFresh, mayPromise, countsReply, hasEnded, replacesKept, higherOf, actsOn, value, ownIsLater, valueToPropose, isForbidden, mayAccept, afterAccept, namingBound, isNamable, namedBy}
+use Rattle.rules.specs.Rules.{isWaiting, waitEnd, leaseOver, acceptedAt, holderOver, namedAt, ballotAt, isFresh, mayPromise, countsReply, hasEnded, replacesKept, higherOf, actsOn, value, ownIsLater, valueToPropose, isForbidden, mayAccept, afterAccept, namingBound, isNamable, namedBy}
 
 -- ---- waiting, time and restart
 
@@ -27,6 +27,10 @@ use Rattle.rules.specs.Rules.{waitEnd, leaseOver, acceptedAt, holderOver
 pub wait-outlasts : (clock longest spread tick end : ℕ) → tick ≤ clock + spread → end ≤ tick + longest → end ≤ waitEnd clock longest spread
 unfolding waitEnd
 wait-outlasts clock longest spread tick end a b = omega arith
+
+-- a host that does not wait has reached the end of its wait
+pub awake : (clock wait : ℕ) → isWaiting clock wait ≡ false → wait ≤ clock
+awake clock wait e = ltb-false _ _ e
 
 -- a wait ends at clock + T + S
 pub wait-is : (clock longest spread : ℕ) → waitEnd clock longest spread ≡ clock + longest + spread
@@ -115,6 +119,11 @@ acts-majority n before after e = go (isMajority n before) refl e
     go : (t : Bool) → isMajority n before ≡ t → cond t false (isMajority n after) ≡ true → (isMajority n after ≡ true) × (isMajority n before ≡ false)
     go true p q = true-false (sym q)
     go false p q = (q, p)
+
+-- where there was none before, a round acts exactly on a majority
+pub acts-first : (n before after : ℕ) → isMajority n before ≡ false → actsOn n before after ≡ isMajority n after
+unfolding actsOn
+acts-first n before after e = rw e
 
 -- the lease to propose is one's own where none was kept, where the kept one has ended, or where it is one's own and ends no later; else the kept one
 pub data ToPropose (number clock : ℕ) (own : KeepersEnd) : Accepted → Value → Type 0 where

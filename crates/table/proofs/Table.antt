@@ -13,7 +13,7 @@ use Rattle.rules.specs.Rules.{waitEnd, acceptedAt, namedAt, isFresh, mayPromise
 use Rattle.state.specs.StateLimits.{lastLongest, settingsOk, durationOk, ballotOk, leaseOk, acceptedOk, promisedOk, lastOk, namedOk, askingOk, proposingOk, roundOk, stateOk}
 use Rattle.state.specs.Ageing.{agedAt}
 use Rattle.state.specs.Blank.{noPromise, noLease, noTick, noRound, noHolder, isBlankState}
-use Rattle.host.specs.Steps.{lastWait, hostOk, advanceRefusal, advancedHost, advanceOf, restartRefusal, restartedHost, restartOf, startRefusal, onStart, startOf, responseWith, onPrepareRequest, askingAfter, onMajority, onCountedReply, onReply, onPrepareResponse, onProposeRequest, proposingAfter, onNaming, onChosen, onCountedVote, onVote, onProposeResponse, onLearn, onMessage, onDelivery, receiveRefusal, receiveOf, decides, isDecidingVote, namedByMajority}
+use Rattle.host.specs.Steps.{lastWait, hostOk, advanceRefusal, advancedHost, advanceOf, restartRefusal, restartedHost, restartOf, startRefusal, onStart, startOf, responseWith, onPrepareRequest, askingAfter, onMajority, onCountedReply, onReply, onPrepareResponse, onProposeRequest, proposingAfter, onNaming, onChosen, onCountedVote, onVote, onProposeResponse, onLearn, onMessage, onDelivery, receiveRefusal, receiveOf}
 use Rattle.places.specs.Places.{placeOk, stateAtOk, placesOk, statesOk, clocksOk, newHost, eachHost, advancesRefusal}
 use Rattle.slots.specs.Slots.{isEmpty, contentOk, slotsOk, empties, lowest, placed, placedEach}
 use Rattle.cell.specs.CellLimits.{cellOk}
@@ -23,7 +23,7 @@ use Rattle.table.specs.Table.{Table}
 use Rattle.table.specs.NotEmpty.{NotEmpty}
 
 computed : Table × NotEmpty
-unfolding ones onesIn firstOf le numberAt total numbersAt packed isMajority membersFrom lastTick lastEnd isAbove knownKind isResponse numbersOf messageOf addressedTo partyFits faultOf partyFitsTo faultTo moreOf kindLength bytesOf valueIn numbersIn readAnswer readOf waitEnd acceptedAt namedAt isFresh mayPromise hasEnded higherOf actsOn valueToPropose isForbidden mayAccept afterAccept namedBy lastLongest settingsOk durationOk ballotOk leaseOk acceptedOk promisedOk lastOk namedOk askingOk proposingOk roundOk stateOk agedAt lastWait hostOk advanceRefusal advancedHost advanceOf restartRefusal restartedHost restartOf startRefusal onStart startOf responseWith onPrepareRequest askingAfter onMajority onCountedReply onReply onPrepareResponse onProposeRequest proposingAfter onNaming onChosen onCountedVote onVote onProposeResponse onLearn onMessage onDelivery receiveRefusal receiveOf decides isDecidingVote namedByMajority isEmpty contentOk slotsOk empties lowest placed placedEach noPromise noLease noTick noRound noHolder isBlankState placeOk stateAtOk placesOk statesOk clocksOk cellOk messagesIn sentTo stepped openingRefusal newHost openedWith openingOf eachHost advancesRefusal advanceAllRefusal advancedAll advancedOne advanceOneRefusal startAtRefusal deliverFull deliverRefusal delivered loseRefusal repeatRefusal repeated restartAtRefusal refusalOf afterOf eventOf run answers every allOf
+unfolding ones onesIn firstOf le numberAt total numbersAt packed isMajority membersFrom lastTick lastEnd isAbove knownKind isResponse numbersOf messageOf addressedTo partyFits faultOf partyFitsTo faultTo moreOf kindLength bytesOf valueIn numbersIn readAnswer readOf waitEnd acceptedAt namedAt isFresh mayPromise hasEnded higherOf actsOn valueToPropose isForbidden mayAccept afterAccept namedBy lastLongest settingsOk durationOk ballotOk leaseOk acceptedOk promisedOk lastOk namedOk askingOk proposingOk roundOk stateOk agedAt lastWait hostOk advanceRefusal advancedHost advanceOf restartRefusal restartedHost restartOf startRefusal onStart startOf responseWith onPrepareRequest askingAfter onMajority onCountedReply onReply onPrepareResponse onProposeRequest proposingAfter onNaming onChosen onCountedVote onVote onProposeResponse onLearn onMessage onDelivery receiveRefusal receiveOf isEmpty contentOk slotsOk empties lowest placed placedEach noPromise noLease noTick noRound noHolder isBlankState placeOk stateAtOk placesOk statesOk clocksOk cellOk messagesIn sentTo stepped openingRefusal newHost openedWith openingOf eachHost advancesRefusal advanceAllRefusal advancedAll advancedOne advanceOneRefusal startAtRefusal deliverFull deliverRefusal delivered loseRefusal repeatRefusal repeated restartAtRefusal refusalOf afterOf eventOf run answers every allOf
 computed = (
   record { P1 = refl; P2 = refl; P3 = refl; P4 = refl; P5 = (refl, refl); P6 = refl; P7 = refl; P8 = refl; P9 = (refl, refl, refl, refl); P10 = refl; P11 = refl; P12 = refl },
   record { answered = refl; learned = refl; ended = refl; passed = refl; waits = refl; returned = refl },

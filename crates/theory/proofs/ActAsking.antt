@@ -6,7 +6,7 @@ use mathlib.Core.Path.{_≡_, ap, subst}
 use mathlib.Core.Logic.{_⊎_, inl, inr}
 use mathlib.Core.Option.{Option, none, some, Option·none-ne-some, Option·some-injective}
 use Rattle.theory.specs.Ballots.{tick, proposer, Lease}
-use Rattle.theory.specs.Model.{Setup, Message, prepareRequest, prepareResponse, idle, asking, Host, World, Sent, put, withRound, withAsking, Higher, NewTick}
+use Rattle.theory.specs.Model.{Setup, Message, prepareRequest, prepareResponse, idle, asking, Host, World, Sent, put, withRound, withAsking, Higher, nextTick, NewTick}
 use Rattle.theory.specs.Invariant.{Proposed, Below, Heard, Reply, MessageOk, Asking, Invariant}
 use Rattle.theory.proofs.Act.{kind, Owed, held}
 use Rattle.theory.proofs.ActParts.{plain-owed, proposed-before, host-with-round, keep-round}
@@ -18,14 +18,22 @@ module _ {𝒞 : Setup} where
     pub keep-giveUp : Invariant (put s h (withRound (s .host h) idle) none)
     keep-giveUp = keep-round I h idle tt
 
-    pub keep-start : (b d : ℕ) (R : Hosts) → tick b ≡ s .clock h → proposer b ≡ h → ((x : ℕ) → In x R → ⊥) → s .host h .wait ≤ s .clock h →
-        NewTick (s .host h) (s .clock h) → 1 ≤ d → d + S ≤ T →
-        Invariant (put s h (withAsking (s .host h) (s .clock h + 1) (asking b d R none)) (some (prepareRequest b)))
+    -- nothing is proposed with a new ballot yet: it is above the last one of its host, which has
+    -- waited out all that a restart made it forget
+    unused : (b o e : ℕ) → tick b ≡ nextTick (s .host h) (s .clock h) → proposer b ≡ h →
+        s .host h .wait ≤ s .clock h → NewTick (s .host h) (s .clock h) → 1 ≤ T → Proposed s b o e → ⊥
+    unused b o e now ours awake new long p =
+        let z : s .host h .last ≤ tick b → tick b + T ≤ s .host h .wait = rw ours at (I .messages _ p .spent) in
+        omega (arith, z (omega arith))
+
+    pub keep-start : (b d : ℕ) (R : Hosts) → tick b ≡ nextTick (s .host h) (s .clock h) → proposer b ≡ h →
+        ((x : ℕ) → In x R → ⊥) → s .host h .wait ≤ s .clock h → NewTick (s .host h) (s .clock h) → 1 ≤ d → d + S ≤ T →
+        Invariant (put s h (withAsking (s .host h) (nextTick (s .host h) (s .clock h) + 1) (asking b d R none)) (some (prepareRequest b)))
     keep-start b d R now ours nobody awake new one short =
         held I h w m F (λ m' z. subst (λ k. MessageOk (put s h w m) k) (Option·some-injective _ _ z) (λ y. omega (arith, I .near h y)))
-        (host-with-round I h (s .clock h + 1) (asking b d R none) m F (omega arith) (record {
+        (host-with-round I h (nextTick v (s .clock h) + 1) (asking b d R none) m F (omega arith) (record {
           ours = ours;
-          unsaid = λ o e p. unused o e (proposed-before I h w m (omega arith) b o e p);
+          unsaid = λ o e p. unused b o e now ours awake new (omega arith) (proposed-before I h w m (omega arith) b o e p);
           spent = omega arith;
           old = λ y. omega (arith, I .near h y);
           short = short;
@@ -38,19 +46,13 @@ module _ {𝒞 : Setup} where
         v = s .host h
 
         w : Host 𝒞
-        w = withAsking v (s .clock h + 1) (asking b d R none)
+        w = withAsking v (nextTick v (s .clock h) + 1) (asking b d R none)
 
         m : Option Message
         m = some (prepareRequest b)
 
         F : Owed s h w m
         F = plain-owed I h w m (omega arith) (le-refl _) (inl (le-refl _, omega arith))
-
-        -- nothing is proposed with the ballot yet
-        unused : (o e : ℕ) → Proposed s b o e → ⊥
-        unused o e p =
-            let z : s .host h .last ≤ tick b → tick b + T ≤ s .host h .wait = rw ours at (I .messages _ p .spent) in
-            omega (arith, z (omega arith))
 
     pub keep-hear : (b d : ℕ) (R R' : Hosts) (K A K' : Option Lease) (x : ℕ) → s .host h .round ≡ asking b d R K → Sent s (prepareResponse x b A) →
         ((y : ℕ) → In y R' → (y ≡ x) ⊎ In y R) → (K' ≡ K) ⊎ (K' ≡ A) → Higher K A K' →

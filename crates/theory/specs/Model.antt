@@ -114,6 +114,10 @@ module _ {𝒞 : Setup} where
   abbrev pub accepting : Host 𝒞 → ℕ → ℕ → ℕ → Host 𝒞
   accepting v b o e = withVote v (b + 1) (some (record { ballot = b; owner = o; end = e }))
 
+  -- the tick of a host's next ballot is its clock c
+  abbrev pub nextTick : Host 𝒞 → ℕ → ℕ
+  nextTick v c = c
+
   -- the tick c is later than the last ballot's
   abbrev pub NewTick : Host 𝒞 → ℕ → Type 0
   NewTick v c = v .last ≤ c
@@ -134,8 +138,9 @@ module _ {𝒞 : Setup} where
     restart : Act c v l h (restarted c) none
     giveUp : Act c v l h (withRound v idle) none
     start :
-        (b d : ℕ) (R : Hosts) → tick b ≡ c → proposer b ≡ h → ((x : ℕ) → In x R → ⊥) → v .wait ≤ c → NewTick v c → 1 ≤ d → d + S ≤ T →
-        Act c v l h (withAsking v (c + 1) (asking b d R none)) (some (prepareRequest b))
+        (b d : ℕ) (R : Hosts) → tick b ≡ nextTick v c → proposer b ≡ h → ((x : ℕ) → In x R → ⊥) → v .wait ≤ c →
+        NewTick v c → 1 ≤ d → d + S ≤ T →
+        Act c v l h (withAsking v (nextTick v c + 1) (asking b d R none)) (some (prepareRequest b))
     promise :
         (b : ℕ) → List·Memᴰ (prepareRequest b) l → v .wait ≤ c → Above v b →
         Act c v l h (withVote v (b + 1) (v .accepted)) (some (prepareResponse h b (v .accepted)))

@@ -1,0 +1,31 @@
+-- The claims of specs/Claims.antt, proved. Assumes nothing.
+use Prim.Native.Nat.{ℕ, _^_}
+use native.Mathlib.Omega.{arith}
+use mathlib.Core.Path.{_≡_, ap}
+use mathlib.Core.Bool.{true, false}
+use lib.Dec.{eqb}
+use borrow.Author.Tests.{ltb-true, eqb-true, eqb-false, eq-eqb}
+use Rattle.quorum.specs.Sets.{bit, isIn, isBelow, isMajority, Member}
+use Rattle.quorum.specs.Claims.{Claims}
+use Rattle.quorum.proofs.Laws.{bit-le}
+use Rattle.quorum.proofs.Majorities.{majorities-meet, with-again, with-new, with-other}
+
+meets : (n s t : ℕ) → isBelow s n ≡ true → isBelow t n ≡ true → isMajority n s ≡ true → isMajority n t ≡ true
+    → (h : ℕ) × Member n s h × Member n t h
+meets n s t a b p q =
+    let m = majorities-meet n s t (ltb-true s (2 ^ n) a) (ltb-true t (2 ^ n) b) p q in
+    (m .0, record { below = m .1; within = eq-eqb _ _ (m .2) }, record { below = m .1; within = eq-eqb _ _ (m .3) })
+
+-- a bit that is not 1 is 0
+absent : (set h : ℕ) → isIn set h ≡ false → bit set h ≡ 0
+absent set h e =
+    let n = eqb-false (bit set h) 1 e in
+    omega (arith, n, bit-le set h)
+
+pub claims : Claims
+claims = record {
+  majorities-meet = meets;
+  counted-again = λ set h e. with-again set h (eqb-true (bit set h) 1 e);
+  counted-first = λ set h e. with-new set h (absent set h e);
+  others-stay = λ set h k e. ap (λ (b : ℕ). eqb b 1) (with-other set h k e);
+}
