@@ -27,16 +27,16 @@ use Rattle.frame.proofs.Round.{kind-back, frame-length, frame-back}
 
 -- what is read has an answer of 0, and is the message and the length that stand there
 pub record Accepted (z : Sizes) (s : List ℕ) (m : Message) (l : ℕ) : Type 0 where
-  pub answer : readAnswer z s ≡ 0
+  pub passed : readAnswer z s ≡ 0
   pub message : messageOf (numbersIn s (toldKind s)) ≡ m
-  pub length : kindLength (toldKind s) ≡ l
+  pub long : kindLength (toldKind s) ≡ l
 
 read-accepted : (z : Sizes) (s : List ℕ) (m : Message) (l : ℕ) → readOf z s ≡ Whole m l → Accepted z s m l
 unfolding readOf
 read-accepted z s m l = go (readAnswer z s) (eqb (readAnswer z s) 0) refl refl
   where
     go : (a : ℕ) (e : Bool) → readAnswer z s ≡ a → eqb a 0 ≡ e → cond e (Whole (messageOf (numbersIn s (toldKind s))) (kindLength (toldKind s))) (Refused a) ≡ Whole m l → Accepted z s m l
-    go a true p q r = record { answer = p ∙ eqb-true a 0 q; message = cc; length = cc }
+    go a true p q r = record { passed = p ∙ eqb-true a 0 q; message = cc; long = cc }
     go a false p q r = let absent : _≡_ {A = ℕ} 0 1 = cc in absurd (omega arith)
 
 -- an answer of 0: the cell fits, and the frame is whole
@@ -62,21 +62,21 @@ pub read-only : (s : List ℕ) → ((i : ℕ) → getD s i 0 < 256) → (z : Siz
 unfolding frameOf
 read-only s bytes z m l q =
     let p = read-accepted z s m l q in
-    let t = tested z s (p .answer) in
+    let t = tested z s (p .passed) in
     let k = toldKind s in
     let back = bytes-back s k bytes (t .kind) (leb-true (kindLength k) (length s) (t .room)) refl (eqb-true (toldLength s) (kindLength k) (t .told)) in
-    rw (← p .message, ← p .length, message-back s k (t .kind)) (sym back)
+    rw (← p .message, ← p .long, message-back s k (t .kind)) (sym back)
 
 -- what is read can be written, and the length that reading gave is that of the message's frame
 pub read-write : (z : Sizes) (s : List ℕ) (m : Message) (l : ℕ) → readOf z s ≡ Whole m l → (l ≡ length (frameOf m)) × (writeAnswer z m l ≡ 0)
 unfolding numbersIn
 read-write z s m l q =
     let p = read-accepted z s m l q in
-    let t = tested z s (p .answer) in
+    let t = tested z s (p .passed) in
     let k = toldKind s in
     let f : numbersOf m ≡ numbersIn s k = rw (← p .message) (message-back s k (t .kind)) in
-    let e : l ≡ length (frameOf m) = sym (p .length) ∙ sym (ap (λ (g : Numbers). kindLength (g .kind)) f) ∙ sym (frame-length m) in
-    let bad : faultOf z (numbersOf m) ≡ 0 = rw f (sym (read-whole z s (t .cell) (t .fore) (t .kind) (t .told) (t .room)) ∙ p .answer) in
+    let e : l ≡ length (frameOf m) = sym (p .long) ∙ sym (ap (λ (g : Numbers). kindLength (g .kind)) f) ∙ sym (frame-length m) in
+    let bad : faultOf z (numbersOf m) ≡ 0 = rw f (sym (read-whole z s (t .cell) (t .fore) (t .kind) (t .told) (t .room)) ∙ p .passed) in
     (e, write-free z m l (t .cell) bad (omega (arith, e)))
 
 -- two cells that both read some bytes read the same message from them
@@ -84,7 +84,7 @@ pub cells-alike : (z z′ : Sizes) (s : List ℕ) (m m′ : Message) (l l′ : �
 cells-alike z z′ s m m′ l l′ q q′ =
     let p = read-accepted z s m l q in
     let p′ = read-accepted z′ s m′ l′ q′ in
-    (sym (p .message) ∙ p′ .message, sym (p .length) ∙ p′ .length)
+    (sym (p .message) ∙ p′ .message, sym (p .long) ∙ p′ .long)
 
 -- two messages whose numbers fit their fields never share a frame
 pub frames-apart : (m m′ : Message) → Fit (numbersOf m) → Fit (numbersOf m′) → frameOf m ≡ frameOf m′ → m ≡ m′

@@ -1,9 +1,12 @@
-// Frames for hosts written in C: numbers and byte slices. include/lease_frame.h declares these functions.
+// Frames for hosts written in C: numbers and byte slices. include/lease_frame.h declares these
+// functions.
 ghost use mathlib.Core.Path.{_≡_};
 ghost use lib.ListN.{length};
 ghost use Rattle.message.specs.Faults.{sizes};
 ghost use Rattle.frame.specs.Reading.{readOf, numberOf, lengthOf};
-ghost use Rattle.frame_c.specs.Interface.{endOf, numbersAfter, handedNumbers, handedWritten, afterHanded, Wrote, handedWrittenTo, afterHandedTo, WroteTo};
+ghost use Rattle.frame_c.specs.Interface.{endOf, numbersAfter, handedNumbers, Wrote};
+ghost use Rattle.frame_c.specs.Interface.{handedWritten, afterHanded};
+ghost use Rattle.frame_c.specs.Interface.{handedWrittenTo, afterHandedTo};
 ghost use Rattle.frame_c.specs.Parts.{kindAnswer};
 use base::DONE;
 use base::REFUSED_CELL;
@@ -27,8 +30,9 @@ fn end_of(f: Numbers) -> u64
     }
 }
 
-// Reads the frame that bytes begins with into the nine numbers: kind, sender, target, ballot tick, ballot host, accepted tick,
-// accepted host, owner and end, and its length. Those that the kind lacks are 0. A refusal leaves the numbers, and a length of 0.
+// Reads the frame that bytes begins with into the nine numbers: kind, sender, target, ballot tick,
+// ballot host, accepted tick, accepted host, owner and end, and its length. Those that the kind
+// lacks are 0. A refusal leaves the numbers, and a length of 0.
 #[no_mangle]
 pub extern "C" fn lease_frame_read(
     n: u8,
@@ -115,7 +119,8 @@ fn write_handed(z: Sizes, f: Numbers, out: &mut [u8]) -> Written
     frame::write(z, message::message_of(f), out)
 }
 
-// Writes the frames of numbers of a kind to a set of receivers; those that the kind lacks, and the target, are not looked at.
+// Writes the frames of numbers of a kind to a set of receivers; those that the kind lacks, and the
+// target, are not looked at.
 fn write_handed_to(z: Sizes, f: Numbers, set: u16, out: &mut [u8]) -> Written
     ensures { λ r. ⌜ (r ≡ handedWrittenTo z f set (length (now (out .entry)))) × (now (out .exit) ≡ afterHandedTo z f set (now (out .entry))) ⌝ }
 {
@@ -145,8 +150,9 @@ pub extern "C" fn lease_frame_write(
     out: &mut [u8],
     len: &mut usize,
 ) -> u8
-    ensures { λ r. ⌜ Wrote (sizes n) (handedNumbers kind sender target «ballot_tick» «ballot_host» «accepted_tick» «accepted_host» owner end)
-        (now (out .entry)) r (now (len .exit)) (now (out .exit)) ⌝ }
+    ensures { λ r. let f = handedNumbers kind sender target «ballot_tick» «ballot_host» «accepted_tick» «accepted_host» owner end in
+        ⌜ Wrote (handedWritten (sizes n) f (length (now (out .entry)))) (afterHanded (sizes n) f (now (out .entry)))
+        r (now (len .exit)) (now (out .exit)) ⌝ }
 {
     let f = handed_numbers(
         kind,
@@ -164,8 +170,8 @@ pub extern "C" fn lease_frame_write(
     w.answer
 }
 
-// Writes the frames of a message to the hosts of a set end to end at the start of out, and their length to len: 0 where they are
-// refused.
+// Writes the frames of a message to the hosts of a set end to end at the start of out, and their
+// length to len: 0 where they are refused.
 #[no_mangle]
 pub extern "C" fn lease_frame_write_to(
     n: u8,
@@ -181,8 +187,9 @@ pub extern "C" fn lease_frame_write_to(
     out: &mut [u8],
     len: &mut usize,
 ) -> u8
-    ensures { λ r. ⌜ WroteTo (sizes n) (handedNumbers kind sender 0 «ballot_tick» «ballot_host» «accepted_tick» «accepted_host» owner end) receivers
-        (now (out .entry)) r (now (len .exit)) (now (out .exit)) ⌝ }
+    ensures { λ r. let f = handedNumbers kind sender 0 «ballot_tick» «ballot_host» «accepted_tick» «accepted_host» owner end in
+        ⌜ Wrote (handedWrittenTo (sizes n) f receivers (length (now (out .entry)))) (afterHandedTo (sizes n) f receivers (now (out .entry)))
+        r (now (len .exit)) (now (out .exit)) ⌝ }
 {
     let f = handed_numbers(
         kind,
