@@ -40,9 +40,11 @@ pub extern "C" fn lease_frame_read(
     numbers: &mut [u64; 9],
     len: &mut usize,
 ) -> u8
-    ensures { λ r. ⌜ (r ≡ numberOf (readOf (sizes n) (now (bytes .entry))))
-        × ((now (numbers .exit) ≡ numbersAfter (readOf (sizes n) (now (bytes .entry))) (now (numbers .entry)))
-        × (now (len .exit) ≡ lengthOf (readOf (sizes n) (now (bytes .entry))))) ⌝ }
+    ensures { λ r.
+        let found = readOf (sizes n) (now (bytes .entry)) in
+        ⌜ (r ≡ numberOf found)
+        × ((now (numbers .exit) ≡ numbersAfter found (now (numbers .entry)))
+        × (now (len .exit) ≡ lengthOf found)) ⌝ }
 {
     match frame::read(Sizes { n }, bytes) {
         Reading::Whole(m, l) => {
@@ -79,7 +81,8 @@ fn handed_numbers(
     owner: u8,
     end: u64,
 ) -> Numbers
-    ensures { λ r. ⌜ r ≡ handedNumbers kind sender target tick host «accepted_tick» «accepted_host» owner end ⌝ }
+    ensures { λ r. ⌜ r ≡ handedNumbers kind sender target tick host
+        «accepted_tick» «accepted_host» owner end ⌝ }
 {
     let head = message::head_with(sender, target, Ballot { tick, host });
     let accepted = Ballot {
@@ -107,7 +110,8 @@ fn kind_answer(z: Sizes, kind: u16) -> u8
 
 // Writes the frame of numbers of a kind; those that the kind lacks are not looked at.
 fn write_handed(z: Sizes, f: Numbers, out: &mut [u8]) -> Written
-    ensures { λ r. ⌜ (r ≡ handedWritten z f (length (now (out .entry)))) × (now (out .exit) ≡ afterHanded z f (now (out .entry))) ⌝ }
+    ensures { λ r. ⌜ (r ≡ handedWritten z f (length (now (out .entry))))
+        × (now (out .exit) ≡ afterHanded z f (now (out .entry))) ⌝ }
 {
     let bad = kind_answer(z, f.kind);
     if bad != DONE {
@@ -122,7 +126,8 @@ fn write_handed(z: Sizes, f: Numbers, out: &mut [u8]) -> Written
 // Writes the frames of numbers of a kind to a set of receivers; those that the kind lacks, and the
 // target, are not looked at.
 fn write_handed_to(z: Sizes, f: Numbers, set: u16, out: &mut [u8]) -> Written
-    ensures { λ r. ⌜ (r ≡ handedWrittenTo z f set (length (now (out .entry)))) × (now (out .exit) ≡ afterHandedTo z f set (now (out .entry))) ⌝ }
+    ensures { λ r. ⌜ (r ≡ handedWrittenTo z f set (length (now (out .entry))))
+        × (now (out .exit) ≡ afterHandedTo z f set (now (out .entry))) ⌝ }
 {
     let bad = kind_answer(z, f.kind);
     if bad != DONE {
@@ -150,8 +155,11 @@ pub extern "C" fn lease_frame_write(
     out: &mut [u8],
     len: &mut usize,
 ) -> u8
-    ensures { λ r. let f = handedNumbers kind sender target «ballot_tick» «ballot_host» «accepted_tick» «accepted_host» owner end in
-        ⌜ Wrote (handedWritten (sizes n) f (length (now (out .entry)))) (afterHanded (sizes n) f (now (out .entry)))
+    ensures { λ r.
+        let f = handedNumbers kind sender target «ballot_tick» «ballot_host»
+        «accepted_tick» «accepted_host» owner end in
+        ⌜ Wrote (handedWritten (sizes n) f (length (now (out .entry))))
+        (afterHanded (sizes n) f (now (out .entry)))
         r (now (len .exit)) (now (out .exit)) ⌝ }
 {
     let f = handed_numbers(
@@ -187,8 +195,11 @@ pub extern "C" fn lease_frame_write_to(
     out: &mut [u8],
     len: &mut usize,
 ) -> u8
-    ensures { λ r. let f = handedNumbers kind sender 0 «ballot_tick» «ballot_host» «accepted_tick» «accepted_host» owner end in
-        ⌜ Wrote (handedWrittenTo (sizes n) f receivers (length (now (out .entry)))) (afterHandedTo (sizes n) f receivers (now (out .entry)))
+    ensures { λ r.
+        let f = handedNumbers kind sender 0 «ballot_tick» «ballot_host»
+        «accepted_tick» «accepted_host» owner end in
+        ⌜ Wrote (handedWrittenTo (sizes n) f receivers (length (now (out .entry))))
+        (afterHandedTo (sizes n) f receivers (now (out .entry)))
         r (now (len .exit)) (now (out .exit)) ⌝ }
 {
     let f = handed_numbers(
