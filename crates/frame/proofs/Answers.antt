@@ -8,7 +8,7 @@ use native.Mathlib.Omega.{arith}
 use lib.Count.{ones}
 use lib.ListN.{length, length-append}
 use lib.Dec.{leb, eqb}
-use borrow.Author.Tests.{leb-true, ltb-true}
+use borrow.Author.Tests.{leb-true, ltb-true, le-leb}
 use Rattle.base.specs.Refusals.{unless, firstOf, refusedCell, refusedRoom}
 use Rattle.base.specs.Lists.{allOf}
 use Rattle.base.proofs.Tests.{both, first-passed, unless-passed, first-same, first-append}
@@ -65,6 +65,14 @@ unfolding writeAnswer frameOf faultOf allOf
 write-found z m room =
     let f = numbersOf m in
     answer-found z _ (bytesOf f) (kindLength (f .kind)) room (λ e. bytes-length f)
+
+-- where the cell fits, nothing is refused in the message and its frame has room, it is written
+pub write-free : (z : Sizes) (m : Message) (room : ℕ) → sizesFit z ≡ true → faultOf z (numbersOf m) ≡ 0 → length (frameOf m) ≤ room → writeAnswer z m room ≡ 0
+unfolding answerOf firstOf frameOf
+write-free z m room c e r =
+    let f = numbersOf m in
+    let l : kindLength (f .kind) ≤ room = omega (arith, bytes-length f, r) in
+    sym (write-found z m room) ∙ rw (c, e, le-leb (kindLength (f .kind)) room l)
 
 -- ---- frames to a set
 

@@ -3,4 +3,4 @@ pub mod Round
 pub mod Only
 pub mod Sets
 pub mod Claims
-pub mod Moments
+pub mod Examples

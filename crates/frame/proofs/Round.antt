@@ -1,7 +1,7 @@
--- Reading what writing wrote gives the message and the frame's length, whatever follows; and bytes after a frame are not looked at.
--- Assumes nothing.
+-- Reading what writing wrote gives the message and the frame's length, whatever follows; and bytes
+-- after a frame are not looked at. Assumes nothing.
 use mathlib.Core.Path.{_≡_, refl, sym, ap, _∙_}
-use mathlib.Core.Bool.{Bool, true, false}
+use mathlib.Core.Bool.{Bool, true, false, cond}
 use mathlib.Core.List.{List, _++_}
 use Prim.Native.Nat.{ℕ, _+_, _≤_}
 use native.Mathlib.Omega.{arith}
@@ -23,11 +23,11 @@ use Rattle.message.proofs.Laws.{fault-passed, kind-known, message-numbers}
 use Rattle.layout.specs.Layout.{Fit, moreOf, kindLength, headLength, bytesOf, numbersIn}
 use Rattle.layout.proofs.Laws.{length-least, bytes-length, numbers-back, numbers-whole}
 use Rattle.frame.specs.declared.Reading.the-variants.{Whole, Refused}
-use Rattle.frame.specs.Reading.{toldLength, toldKind, readAnswer, readOf, numberOf}
+use Rattle.frame.specs.Reading.{toldLength, toldKind, readAnswer, readOf, numberOf, lengthOf}
 use Rattle.frame.specs.Writing.{frameOf, writeAnswer, writtenOf, afterWrite}
 use Rattle.frame.proofs.Answers.{read-whole, answer-free, cell-most, write-found}
 
--- ---- the number of an answer
+-- ---- the number and the length that reading gives
 
 -- reading's number is that of the first refusal that applies
 pub read-number : (z : Sizes) (s : List ℕ) → numberOf (readOf z s) ≡ readAnswer z s
@@ -35,6 +35,14 @@ unfolding readOf
 read-number z s =
     let a = readAnswer z s in
     by-test (λ r. numberOf r ≡ a) (eqb a 0) (Whole _ _) (Refused a) (λ e. sym (eqb-true a 0 e)) (λ _. refl)
+
+-- its length is that of the kind's frames, and 0 where it is refused
+pub read-length : (z : Sizes) (s : List ℕ) → lengthOf (readOf z s) ≡ cond (eqb (readAnswer z s) 0) (kindLength (toldKind s)) 0
+unfolding readOf
+read-length z s =
+    let a = readAnswer z s in
+    let l = kindLength (toldKind s) in
+    by-test (λ r. lengthOf r ≡ cond (eqb a 0) l 0) (eqb a 0) (Whole _ l) (Refused a) (λ e. rw e) (λ e. rw e)
 
 -- ---- written, then read
 

@@ -6,8 +6,6 @@ use Prim.Native.Nat.{ℕ, _+_, _≤_}
 use native.Mathlib.Omega.{arith}
 use lib.ListN.{length, drop, length-append, length-drop}
 use lib.Seq.{take-append-seam, drop-append-seam, drop-drop}
-use borrow.Author.Tests.{le-leb}
-use Rattle.base.specs.Refusals.{firstOf}
 use Rattle.base.specs.Lists.{All}
 use Rattle.quorum.specs.Sets.{Member, members}
 use Rattle.quorum.proofs.Laws.{members-all}
@@ -15,23 +13,16 @@ use Rattle.message.specs.declared.Sizes.{Sizes}
 use Rattle.message.specs.declared.Numbers.{Numbers}
 use Rattle.message.specs.declared.Message.{Message}
 use Rattle.message.specs.Message.{numbersOf, withTarget, addressedTo}
-use Rattle.message.specs.Faults.{sizesFit, faultOf, faultTo, partyFitsTo}
+use Rattle.message.specs.Faults.{sizesFit, faultTo, partyFitsTo}
 use Rattle.message.proofs.Laws.{numbers-to, fault-each}
-use Rattle.layout.specs.Layout.{kindLength, bytesOf}
+use Rattle.layout.specs.Layout.{bytesOf}
 use Rattle.frame.specs.Writing.{frameOf, writeAnswer, afterWrite, framesIn, framesOf, answerTo, afterWriteTo}
-use Rattle.frame.specs.Parts.{answerOf}
 use Rattle.frame.specs.Claims.{inTurn}
-use Rattle.frame.proofs.Answers.{answer-free, write-found, found-to, length-to}
-use Rattle.frame.proofs.Round.{frame-length}
+use Rattle.frame.proofs.Answers.{answer-free, write-free, found-to, length-to}
 
--- a message to one host, in which nothing is refused, is written where there is room
-write-one : (z : Sizes) (m : Message) (h room : ℕ) → sizesFit z ≡ true → faultOf z (withTarget (numbersOf m) h) ≡ 0 → length (frameOf (addressedTo m h)) ≤ room → writeAnswer z (addressedTo m h) room ≡ 0
-unfolding answerOf firstOf
-write-one z m h room c e r =
-    let f = numbersOf (addressedTo m h) in
-    let bad : faultOf z f ≡ 0 = rw (numbers-to m h) e in
-    let l : kindLength (f .kind) ≤ room = omega (arith, frame-length (addressedTo m h)) in
-    sym (write-found z (addressedTo m h) room) ∙ rw (c, bad, le-leb (kindLength (f .kind)) room l)
+-- a message to one host of a set that nothing refuses is written where its frame has room
+write-one : (z : Sizes) (m : Message) (set h room : ℕ) → sizesFit z ≡ true → faultTo z (numbersOf m) set ≡ 0 → Member (z .n) set h → length (frameOf (addressedTo m h)) ≤ room → writeAnswer z (addressedTo m h) room ≡ 0
+write-one z m set h room c e i r = write-free z (addressedTo m h) room c (rw (numbers-to m h) (fault-each z (numbersOf m) set h e i)) r
 
 frames-same : (f : Numbers) (h : ℕ) (hs : List ℕ) → framesIn (withTarget f h) hs ≡ framesIn f hs
 unfolding framesIn
@@ -51,7 +42,7 @@ in-turn z m set c e (h ∷ hs) ms out k =
     let more = framesIn (numbersOf m) hs in
     let i : bytesOf (withTarget (numbersOf m) h) ≡ one = sym (frame-to m h) in
     let both : length one + length more ≤ length out = rw (i, length-append one more) at k in
-    let w : writeAnswer z (addressedTo m h) (length out) ≡ 0 = write-one z m h (length out) c (fault-each z (numbersOf m) set h e (ms .0)) (omega arith) in
+    let w : writeAnswer z (addressedTo m h) (length out) ≡ 0 = write-one z m set h (length out) c e (ms .0) (omega arith) in
     let room : length more ≤ length (drop (length one) out) = omega (arith, length-drop (length one) out) in
     rw (w, take-append-seam one (drop (length one) out), drop-append-seam one (drop (length one) out), in-turn z m set c e hs (ms .1) (drop (length one) out) room, i, length-append one more, drop-drop (length more) (length one) out)
     (sym (append-assoc one more (drop (length one + length more) out)))
@@ -64,11 +55,11 @@ set-in-turn z m set out q =
     let k : length (framesOf z m set) ≤ length out = omega (arith, length-to z m set (p .message), p .fits) in
     rw q (sym (in-turn z m set (p .cell) (p .message) (members (z .n) set) (members-all (z .n) set) out k))
 
--- and each of those is written: none of them is refused
-pub each-written : (z : Sizes) (m : Message) (set room h : ℕ) → answerTo z m set room ≡ 0 → Member (z .n) set h → writeAnswer z (addressedTo m h) (length (frameOf (addressedTo m h))) ≡ 0
-each-written z m set room h q i =
+-- and to none of them is the message refused where its frame has room
+pub each-written : (z : Sizes) (m : Message) (set room h : ℕ) → answerTo z m set room ≡ 0 → Member (z .n) set h → (room′ : ℕ) → length (frameOf (addressedTo m h)) ≤ room′ → writeAnswer z (addressedTo m h) room′ ≡ 0
+each-written z m set room h q i room′ r =
     let p = answer-free z _ _ room (found-to z m set room ∙ q) in
-    write-one z m h (length (frameOf (addressedTo m h))) (p .cell) (fault-each z (numbersOf m) set h (p .message) i) (omega arith)
+    write-one z m set h room′ (p .cell) (p .message) i r
 
 -- the message's own target is not looked at
 pub target-unread : (z : Sizes) (m : Message) (h set room : ℕ) → (answerTo z (addressedTo m h) set room ≡ answerTo z m set room) × (framesOf z (addressedTo m h) set ≡ framesOf z m set)

@@ -2,3 +2,4 @@ pub mod Reading
 pub mod Writing
 pub mod Parts
 pub mod Claims
+pub mod Examples

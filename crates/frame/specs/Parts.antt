@@ -11,7 +11,8 @@ use Rattle.layout.specs.Layout.{bytesOf}
 
 -- the answer of writing from what was found: of the message, of the bytes to write, and of the room
 unfoldable pub answerOf : Sizes → ℕ → ℕ → ℕ → ℕ
-answerOf z bad total room = firstOf (unless (sizesFit z) refusedCell ∷ bad ∷ unless (leb total room) refusedRoom ∷ [])
+answerOf z bad total room =
+    firstOf (unless (sizesFit z) refusedCell ∷ bad ∷ unless (leb total room) refusedRoom ∷ [])
 
 -- one frame, or none
 abbrev pub partOf : Bool → Numbers → List ℕ

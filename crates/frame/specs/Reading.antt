@@ -1,16 +1,20 @@
--- What reading gives: a message and its frame's length, or the number of the first refusal that applies. Assumes nothing.
+-- What reading gives: a message and its frame's length, or the number of the first refusal that
+-- applies. Assumes nothing.
 use Prim.Native.Nat.{ℕ}
 use mathlib.Core.Bool.{cond}
 use mathlib.Core.List.{List, [], _∷_}
 use lib.ListN.{length}
 use lib.Dec.{leb, eqb}
-use Rattle.base.specs.Refusals.{test, Refusal, refusal, answer, done, refusedCell, refusedCut, refusedKind, refusedLength}
+use Rattle.base.specs.Refusals.{test, Refusal, refusal, answer}
+use Rattle.base.specs.Refusals.{done, refusedCell, refusedCut, refusedKind, refusedLength}
 use Rattle.wire.specs.Wire.{numberAt}
 use Rattle.message.specs.declared.Sizes.{Sizes}
 use Rattle.message.specs.declared.Message.{Message}
 use Rattle.message.specs.Message.{knownKind, messageOf}
-use Rattle.message.specs.Faults.{sizesFit, Field, settings, lentBytes, frameLength, kindNumber, refusalsOf}
-use Rattle.layout.specs.Layout.{widthOf, kindLength, lengthOffset, kindOffset, foreLength, numbersIn}
+use Rattle.message.specs.Faults.{sizesFit, refusalsOf}
+use Rattle.message.specs.Faults.{Field, settings, lentBytes, frameLength, kindNumber}
+use Rattle.layout.specs.Layout.{widthOf, kindLength, numbersIn}
+use Rattle.layout.specs.Layout.{lengthOffset, kindOffset, foreLength}
 use Rattle.frame.specs.declared.Reading.{Reading}
 use Rattle.frame.specs.declared.Reading.the-variants.{Whole, Refused}
 
@@ -39,7 +43,9 @@ abbrev pub readWith : ℕ → Message → ℕ → Reading
 readWith a m l = cond (eqb a done) (Whole m l) (Refused a)
 
 unfoldable pub readOf : Sizes → List ℕ → Reading
-readOf z s = readWith (readAnswer z s) (messageOf (numbersIn s (toldKind s))) (kindLength (toldKind s))
+readOf z s =
+    let k = toldKind s in
+    readWith (readAnswer z s) (messageOf (numbersIn s k)) (kindLength k)
 
 -- document 01's number and length for each case: a refused reading has length 0, and no message
 abbrev pub numberOf : Reading → ℕ

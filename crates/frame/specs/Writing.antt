@@ -1,4 +1,5 @@
--- What writing gives and leaves: to the message's own target, and to a set of receivers. Assumes nothing.
+-- What writing gives and leaves: to the message's own target, and to a set of receivers. Assumes
+-- nothing.
 use Prim.Native.Nat.{ℕ}
 use mathlib.Core.Bool.{cond}
 use mathlib.Core.List.{List, [], _∷_, _++_}
@@ -55,7 +56,8 @@ unfoldable pub framesOf : Sizes → Message → ℕ → List ℕ
 framesOf z m set = framesIn (numbersOf m) (members (z .n) set)
 
 unfoldable pub answerTo : Sizes → Message → ℕ → ℕ → ℕ
-answerTo z m set room = answer (writeRefusals z (refusalsTo z (numbersOf m) set) (framesOf z m set) room)
+answerTo z m set room =
+    answer (writeRefusals z (refusalsTo z (numbersOf m) set) (framesOf z m set) room)
 
 unfoldable pub writtenTo : Sizes → Message → ℕ → ℕ → Written
 writtenTo z m set room = writtenWith (answerTo z m set room) (framesOf z m set)

@@ -1,4 +1,5 @@
-// Frames: reading one, writing one to its message's target, and writing one message to a set of receivers.
+// Frames: reading one, writing one to its message's target, and writing one message to a set of
+// receivers.
 ghost use mathlib.Core.Path.{_≡_};
 ghost use Prim.Native.Nat.{_+_, _*_, _≤_};
 ghost use lib.ListN.{length};
@@ -10,7 +11,8 @@ ghost use Rattle.message.specs.Faults.{faultOf};
 ghost use Rattle.layout.specs.Layout.{mostLength};
 ghost use Rattle.layout.specs.Parts.{Room};
 ghost use Rattle.frame.specs.Reading.{readWith, readOf, numberOf, lengthOf};
-ghost use Rattle.frame.specs.Writing.{writtenOf, afterWrite, framesIn, writtenTo, afterWriteTo};
+ghost use Rattle.frame.specs.Writing.{writtenOf, afterWrite};
+ghost use Rattle.frame.specs.Writing.{framesIn, writtenTo, afterWriteTo};
 ghost use Rattle.frame.specs.Parts.{answerOf, partOf};
 use base::DONE;
 use base::REFUSED_CELL;
@@ -106,7 +108,8 @@ fn answer_of(z: Sizes, bad: u8, total: usize, room: usize) -> u8
 
 // Writes the frame of a message at the start of out, or leaves out as it is.
 pub fn write(z: Sizes, m: Message, out: &mut [u8]) -> Written
-    ensures { λ r. ⌜ (r ≡ writtenOf z m (length (now (out .entry)))) × (now (out .exit) ≡ afterWrite z m (now (out .entry))) ⌝ }
+    ensures { λ r. ⌜ (r ≡ writtenOf z m (length (now (out .entry))))
+        × (now (out .exit) ≡ afterWrite z m (now (out .entry))) ⌝ }
 {
     let f = message::numbers_of(m);
     let len = layout::kind_length(f.kind);
@@ -122,7 +125,8 @@ pub fn write(z: Sizes, m: Message, out: &mut [u8]) -> Written
 // Writes one frame at `at`, or none, and gives where the next one goes.
 fn put_if(out: &mut [u8], at: usize, f: Numbers, len: usize, on: bool) -> usize
     requires { ⌜ Room f len (at + length (partOf on f)) (now out) ⌝ }
-    ensures { λ r. ⌜ (r ≡ at + length (partOf on f)) × (now (out .exit) ≡ sets (now (out .entry)) at (partOf on f)) ⌝ }
+    ensures { λ r. ⌜ (r ≡ at + length (partOf on f))
+        × (now (out .exit) ≡ sets (now (out .entry)) at (partOf on f)) ⌝ }
 {
     if on {
         layout::put_numbers(out, at, f, len);
@@ -132,7 +136,8 @@ fn put_if(out: &mut [u8], at: usize, f: Numbers, len: usize, on: bool) -> usize
     }
 }
 
-// Writes the frames to the hosts of a set end to end at the start of out. The set is halved until no host is left.
+// Writes the frames to the hosts of a set end to end at the start of out. The set is halved until
+// no host is left.
 fn put_set(out: &mut [u8], f: Numbers, len: usize, set: u16)
     requires { ⌜ Room f len (length (framesIn f (members 16 set))) (now out) ⌝ }
     ensures { λ _. ⌜ now (out .exit) ≡ sets (now (out .entry)) 0 (framesIn f (members 16 set)) ⌝ }
@@ -155,10 +160,11 @@ fn total_of(set: u16, len: usize) -> usize
     quorum::size_of(set) as usize * len
 }
 
-// Writes the frames of a message to the hosts of a set end to end at the start of out, or leaves out as it is. The message's own
-// target is not looked at.
+// Writes the frames of a message to the hosts of a set end to end at the start of out, or leaves
+// out as it is. The message's own target is not looked at.
 pub fn write_to(z: Sizes, m: Message, set: u16, out: &mut [u8]) -> Written
-    ensures { λ r. ⌜ (r ≡ writtenTo z m set (length (now (out .entry)))) × (now (out .exit) ≡ afterWriteTo z m set (now (out .entry))) ⌝ }
+    ensures { λ r. ⌜ (r ≡ writtenTo z m set (length (now (out .entry))))
+        × (now (out .exit) ≡ afterWriteTo z m set (now (out .entry))) ⌝ }
 {
     let f = message::numbers_of(m);
     let len = layout::kind_length(f.kind);

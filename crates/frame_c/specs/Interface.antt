@@ -17,13 +17,16 @@ use Rattle.frame.specs.Writing.{writeRefusals, writtenWith, afterWith, frameOf,
 
 -- ---- reading
 
--- the end that a message's kind has: the holder's in a learn message, the keepers' in any other; 0 where it has none
+-- the end that a message's kind has: the holder's in a learn message, the keepers' in any other; 0
+-- where it has none
 unfoldable pub endOf : Numbers → ℕ
 endOf f = cond (eqb (f .kind) learn) (f .holders .0) (f .keepers .0)
 
 -- the nine numbers of a message
 abbrev pub nine : Numbers → List ℕ
-nine f = f .kind ∷ f .sender ∷ f .target ∷ f .ballot .tick ∷ f .ballot .host ∷ f .accepted .tick ∷ f .accepted .host ∷ f .owner ∷ endOf f ∷ []
+nine f =
+    f .kind ∷ f .sender ∷ f .target ∷ f .ballot .tick ∷ f .ballot .host
+    ∷ f .accepted .tick ∷ f .accepted .host ∷ f .owner ∷ endOf f ∷ []
 
 -- what reading leaves of the lent numbers: a refusal leaves them as they were
 abbrev pub numbersAfter : Reading → List ℕ → List ℕ
@@ -49,9 +52,18 @@ handedNumbers kind sender target tick host acceptedTick acceptedHost owner end =
 abbrev pub kindRefusal : ℕ → Refusal Field
 kindRefusal kind = refusal refusedKind (test kindNumber (knownKind kind) ∷ [])
 
+-- what is handed back where writing gives w and leaves these bytes: the answer's number, the length
+-- beside it, and the lent bytes afterwards
+pub record Wrote (w : Written) (left : List ℕ) (r len : ℕ) (after : List ℕ) : Type 0 where
+  pub number : r ≡ w .answer
+  pub long : len ≡ w .len
+  pub bytes : after ≡ left
+
 -- to the message's own target
 unfoldable pub handedAnswer : Sizes → Numbers → ℕ → ℕ
-handedAnswer z f room = answer (writeRefusals z (kindRefusal (f .kind) ∷ refusalsOf z (numbersOf (messageOf f))) (frameOf (messageOf f)) room)
+handedAnswer z f room =
+    let m = messageOf f in
+    answer (writeRefusals z (kindRefusal (f .kind) ∷ refusalsOf z (numbersOf m)) (frameOf m) room)
 
 unfoldable pub handedWritten : Sizes → Numbers → ℕ → Written
 handedWritten z f room = writtenWith (handedAnswer z f room) (frameOf (messageOf f))
@@ -59,23 +71,17 @@ handedWritten z f room = writtenWith (handedAnswer z f room) (frameOf (messageOf
 unfoldable pub afterHanded : Sizes → Numbers → List ℕ → List ℕ
 afterHanded z f out = afterWith (handedAnswer z f (length out)) (frameOf (messageOf f)) out
 
--- the answer, the length beside it and the lent bytes afterwards, of writing these numbers
-pub record Wrote (z : Sizes) (f : Numbers) (before : List ℕ) (r len : ℕ) (after : List ℕ) : Type 0 where
-  pub answer : r ≡ handedWritten z f (length before) .answer
-  pub length : len ≡ handedWritten z f (length before) .len
-  pub bytes : after ≡ afterHanded z f before
-
 -- to a set of receivers
 unfoldable pub handedAnswerTo : Sizes → Numbers → ℕ → ℕ → ℕ
-handedAnswerTo z f set room = answer (writeRefusals z (kindRefusal (f .kind) ∷ refusalsTo z (numbersOf (messageOf f)) set) (framesOf z (messageOf f) set) room)
+handedAnswerTo z f set room =
+    let m = messageOf f in
+    let refusals = kindRefusal (f .kind) ∷ refusalsTo z (numbersOf m) set in
+    answer (writeRefusals z refusals (framesOf z m set) room)
 
 unfoldable pub handedWrittenTo : Sizes → Numbers → ℕ → ℕ → Written
-handedWrittenTo z f set room = writtenWith (handedAnswerTo z f set room) (framesOf z (messageOf f) set)
+handedWrittenTo z f set room =
+    writtenWith (handedAnswerTo z f set room) (framesOf z (messageOf f) set)
 
 unfoldable pub afterHandedTo : Sizes → Numbers → ℕ → List ℕ → List ℕ
-afterHandedTo z f set out = afterWith (handedAnswerTo z f set (length out)) (framesOf z (messageOf f) set) out
-
-pub record WroteTo (z : Sizes) (f : Numbers) (set : ℕ) (before : List ℕ) (r len : ℕ) (after : List ℕ) : Type 0 where
-  pub answer : r ≡ handedWrittenTo z f set (length before) .answer
-  pub length : len ≡ handedWrittenTo z f set (length before) .len
-  pub bytes : after ≡ afterHandedTo z f set before
+afterHandedTo z f set out =
+    afterWith (handedAnswerTo z f set (length out)) (framesOf z (messageOf f) set) out

@@ -7,4 +7,5 @@ use Rattle.message.specs.Message.{knownKind}
 use Rattle.message.specs.Faults.{sizesFit}
 
 unfoldable pub kindAnswer : Sizes → ℕ → ℕ
-kindAnswer z kind = firstOf (unless (sizesFit z) refusedCell ∷ unless (knownKind kind) refusedKind ∷ [])
+kindAnswer z kind =
+    firstOf (unless (sizesFit z) refusedCell ∷ unless (knownKind kind) refusedKind ∷ [])
