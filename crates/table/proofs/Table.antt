@@ -1,4 +1,5 @@
--- The joint table holds, and so do the three runs: each entry is what the definitions compute. Assumes nothing.
+-- The joint table holds, and so do the runs in which a holder is named and the orders of refusals: each entry is
+-- what the definitions compute. Assumes nothing.
 use mathlib.Core.Path.{refl}
 use lib.Count.{ones, onesIn}
 use Rattle.base.specs.Refusals.{firstOf}
@@ -9,6 +10,8 @@ use Rattle.message.specs.Message.{lastTick, lastEnd, isAbove, knownKind, isResp
 use Rattle.message.specs.Faults.{partyFits, faultOf, partyFitsTo, faultTo}
 use Rattle.layout.specs.Layout.{moreOf, kindLength, bytesOf, valueIn, numbersIn}
 use Rattle.frame.specs.Reading.{readAnswer, readOf}
+use Rattle.frame.specs.Writing.{frameOf, writeAnswer, framesIn, framesOf, answerTo}
+use Rattle.frame_c.specs.Interface.{handedNumbers, handedAnswer, handedAnswerTo}
 use Rattle.rules.specs.Rules.{waitEnd, acceptedAt, namedAt, isFresh, mayPromise, hasEnded, higherOf, actsOn, valueToPropose, isForbidden, mayAccept, afterAccept, namedBy}
 use Rattle.state.specs.StateLimits.{lastLongest, settingsOk, durationOk, ballotOk, leaseOk, acceptedOk, promisedOk, lastOk, namedOk, askingOk, proposingOk, roundOk, stateOk}
 use Rattle.state.specs.Ageing.{agedAt}
@@ -21,12 +24,32 @@ use Rattle.cell.specs.Events.{messagesIn, sentTo, stepped, openingRefusal, open
 use Rattle.cell.specs.Runs.{run, answers}
 use Rattle.table.specs.Table.{Table}
 use Rattle.table.specs.NotEmpty.{NotEmpty}
+use Rattle.table.specs.RefusalOrders.{RefusalOrders}
 
-computed : Table × NotEmpty
-unfolding ones onesIn firstOf le numberAt total numbersAt packed isMajority membersFrom lastTick lastEnd isAbove knownKind isResponse numbersOf messageOf addressedTo partyFits faultOf partyFitsTo faultTo moreOf kindLength bytesOf valueIn numbersIn readAnswer readOf waitEnd acceptedAt namedAt isFresh mayPromise hasEnded higherOf actsOn valueToPropose isForbidden mayAccept afterAccept namedBy lastLongest settingsOk durationOk ballotOk leaseOk acceptedOk promisedOk lastOk namedOk askingOk proposingOk roundOk stateOk agedAt lastWait hostOk advanceRefusal advancedHost advanceOf restartRefusal restartedHost restartOf startRefusal onStart startOf responseWith onPrepareRequest askingAfter onMajority onCountedReply onReply onPrepareResponse onProposeRequest proposingAfter onNaming onChosen onCountedVote onVote onProposeResponse onLearn onMessage onDelivery receiveRefusal receiveOf isEmpty contentOk slotsOk empties lowest placed placedEach noPromise noLease noTick noRound noHolder isBlankState placeOk stateAtOk placesOk statesOk clocksOk cellOk messagesIn sentTo stepped openingRefusal newHost openedWith openingOf eachHost advancesRefusal advanceAllRefusal advancedAll advancedOne advanceOneRefusal startAtRefusal deliverFull deliverRefusal delivered loseRefusal repeatRefusal repeated restartAtRefusal refusalOf afterOf eventOf run answers every allOf
+computed : Table × NotEmpty × RefusalOrders
+unfolding frameOf writeAnswer framesIn framesOf answerTo handedNumbers handedAnswer handedAnswerTo ones onesIn firstOf le numberAt total numbersAt packed isMajority membersFrom lastTick lastEnd isAbove knownKind isResponse numbersOf messageOf addressedTo partyFits faultOf partyFitsTo faultTo moreOf kindLength bytesOf valueIn numbersIn readAnswer readOf waitEnd acceptedAt namedAt isFresh mayPromise hasEnded higherOf actsOn valueToPropose isForbidden mayAccept afterAccept namedBy lastLongest settingsOk durationOk ballotOk leaseOk acceptedOk promisedOk lastOk namedOk askingOk proposingOk roundOk stateOk agedAt lastWait hostOk advanceRefusal advancedHost advanceOf restartRefusal restartedHost restartOf startRefusal onStart startOf responseWith onPrepareRequest askingAfter onMajority onCountedReply onReply onPrepareResponse onProposeRequest proposingAfter onNaming onChosen onCountedVote onVote onProposeResponse onLearn onMessage onDelivery receiveRefusal receiveOf isEmpty contentOk slotsOk empties lowest placed placedEach noPromise noLease noTick noRound noHolder isBlankState placeOk stateAtOk placesOk statesOk clocksOk cellOk messagesIn sentTo stepped openingRefusal newHost openedWith openingOf eachHost advancesRefusal advanceAllRefusal advancedAll advancedOne advanceOneRefusal startAtRefusal deliverFull deliverRefusal delivered loseRefusal repeatRefusal repeated restartAtRefusal refusalOf afterOf eventOf run answers every allOf
 computed = (
-  record { P1 = refl; P2 = refl; P3 = refl; P4 = refl; P5 = (refl, refl); P6 = refl; P7 = refl; P8 = refl; P9 = (refl, refl, refl, refl); P10 = refl; P11 = refl; P12 = refl },
+  record { P1 = refl; P2 = refl; P3 = refl; P4 = refl; P5 = (refl, refl); P6 = refl; P7 = refl; P8 = refl; P9 = (refl, refl, refl, refl); P10 = (refl, refl); P11 = refl; P12 = refl },
   record { answered = refl; learned = refl; ended = refl; passed = refl; waits = refl; returned = refl },
+  record {
+    reading = refl;
+    writing = refl;
+    writing-to = refl;
+    handed = refl;
+    handed-to = refl;
+    opening = refl;
+    advance-all = refl;
+    advance-one = refl;
+    start = refl;
+    deliver = refl;
+    lose = refl;
+    repeat = refl;
+    restart = refl;
+    host-advance = refl;
+    host-start = refl;
+    host-restart = refl;
+    host-message = refl;
+  },
 )
 
 pub table : Table
@@ -34,3 +57,6 @@ table = computed .0
 
 pub not-empty : NotEmpty
 not-empty = computed .1
+
+pub refusal-orders : RefusalOrders
+refusal-orders = computed .2
