@@ -7,7 +7,12 @@
  * returns.
  *
  * `length` and `numbers` must not be NULL. A byte slice may be NULL if its
- * length is 0. No two arguments may overlap in memory.
+ * length is 0. No two arguments may overlap in memory. What `out`, `numbers`
+ * and `*length` hold before a call is not looked at: they need no value.
+ *
+ * A host number, as n, is 8 bits wide and a kind or a set of receivers 16. C
+ * cuts a larger number down to that before the call, so that a host 256 arrives
+ * as host 0 and is not refused: keep such numbers out, or in these types.
  */
 #ifndef LEASE_FRAME_H
 #define LEASE_FRAME_H

@@ -86,5 +86,5 @@ abbrev pub allHold : {Field : Type 0} → List (Test Field) → Bool
 allHold ts = allOf (map (λ t. t .holds) ts)
 
 -- the number of the first refusal that applies, or 0 (done)
-abbrev pub answer : {Field : Type 0} → List (Refusal Field) → ℕ
-answer rs = firstOf (map (λ r. unless (allHold (r .tests)) (r .number)) rs)
+abbrev pub answerBy : {Field : Type 0} → List (Refusal Field) → ℕ
+answerBy rs = firstOf (map (λ r. unless (allHold (r .tests)) (r .number)) rs)

@@ -4,7 +4,7 @@ use Prim.Native.Nat.{ℕ}
 use mathlib.Core.Bool.{cond}
 use mathlib.Core.List.{List, [], _∷_}
 use lib.Dec.{ltb, leb, eqb}
-use Rattle.base.specs.Refusals.{done, unless, firstOf, test, Refusal, refusal, answer, refusedCell, refusedHost, refusedTick, refusedSpread}
+use Rattle.base.specs.Refusals.{done, unless, firstOf, test, Refusal, refusal, answerBy, refusedCell, refusedHost, refusedTick, refusedSpread}
 use Rattle.quorum.specs.Sets.{sizeOf}
 use Rattle.message.specs.declared.Message.{Message}
 use Rattle.message.specs.Message.{lastTick, targetOf}
@@ -67,7 +67,7 @@ abbrev pub openingRefusals : Settings → ℕ → List (Refusal OpeningField)
 openingRefusals s clock = refusal refusedCell (settingsTests s) ∷ refusal refusedTick (test openingClock (leb clock lastTick) ∷ []) ∷ []
 
 unfoldable pub openingRefusal : Settings → ℕ → ℕ
-openingRefusal s clock = answer (openingRefusals s clock)
+openingRefusal s clock = answerBy (openingRefusals s clock)
 
 -- 'sets every clock to one given tick, and every host waits as after a restart'
 unfoldable pub openedWith : Settings → ℕ → Cell

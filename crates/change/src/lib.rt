@@ -23,6 +23,7 @@ pub struct Change {
 
 // ---- what an event is about
 
+// Whether an event is about all hosts, and not about one host or one slot.
 pub fn is_all(e: Event) -> bool
     ensures { λ r. ⌜ r ≡ isAll e ⌝ }
 {

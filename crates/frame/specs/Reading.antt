@@ -5,7 +5,7 @@ use mathlib.Core.Bool.{cond}
 use mathlib.Core.List.{List, [], _∷_}
 use lib.ListN.{length}
 use lib.Dec.{leb, eqb}
-use Rattle.base.specs.Refusals.{test, Refusal, refusal, answer}
+use Rattle.base.specs.Refusals.{test, Refusal, refusal, answerBy}
 use Rattle.base.specs.Refusals.{done, refusedCell, refusedCut, refusedKind, refusedLength}
 use Rattle.wire.specs.Wire.{numberAt}
 use Rattle.message.specs.declared.Sizes.{Sizes}
@@ -36,7 +36,7 @@ readRefusals z s =
     ∷ refusalsOf z (numbersIn s (toldKind s))
 
 unfoldable pub readAnswer : Sizes → List ℕ → ℕ
-readAnswer z s = answer (readRefusals z s)
+readAnswer z s = answerBy (readRefusals z s)
 
 -- what is read under an answer
 abbrev pub readWith : ℕ → Message → ℕ → Reading

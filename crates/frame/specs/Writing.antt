@@ -5,7 +5,7 @@ use mathlib.Core.Bool.{cond}
 use mathlib.Core.List.{List, [], _∷_, _++_}
 use lib.ListN.{length, drop}
 use lib.Dec.{leb, eqb}
-use Rattle.base.specs.Refusals.{test, Refusal, refusal, answer, done, refusedCell, refusedRoom}
+use Rattle.base.specs.Refusals.{test, Refusal, refusal, answerBy, done, refusedCell, refusedRoom}
 use Rattle.quorum.specs.Sets.{members}
 use Rattle.message.specs.declared.Sizes.{Sizes}
 use Rattle.message.specs.declared.Numbers.{Numbers}
@@ -36,7 +36,7 @@ frameOf m = bytesOf (numbersOf m)
 
 -- the answer, into `room` bytes
 unfoldable pub writeAnswer : Sizes → Message → ℕ → ℕ
-writeAnswer z m room = answer (writeRefusals z (refusalsOf z (numbersOf m)) (frameOf m) room)
+writeAnswer z m room = answerBy (writeRefusals z (refusalsOf z (numbersOf m)) (frameOf m) room)
 
 unfoldable pub writtenOf : Sizes → Message → ℕ → Written
 writtenOf z m room = writtenWith (writeAnswer z m room) (frameOf m)
@@ -57,7 +57,7 @@ framesOf z m set = framesIn (numbersOf m) (members (z .n) set)
 
 unfoldable pub answerTo : Sizes → Message → ℕ → ℕ → ℕ
 answerTo z m set room =
-    answer (writeRefusals z (refusalsTo z (numbersOf m) set) (framesOf z m set) room)
+    answerBy (writeRefusals z (refusalsTo z (numbersOf m) set) (framesOf z m set) room)
 
 unfoldable pub writtenTo : Sizes → Message → ℕ → ℕ → Written
 writtenTo z m set room = writtenWith (answerTo z m set room) (framesOf z m set)

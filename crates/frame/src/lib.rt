@@ -31,6 +31,7 @@ pub enum Reading {
 }
 
 impl Reading {
+    // Document 01's number: 0, or the refusal's.
     pub fn number(self) -> u8
         ensures { λ r. ⌜ r ≡ numberOf self ⌝ }
     {
@@ -40,6 +41,7 @@ impl Reading {
         }
     }
 
+    // The length of the frame that was read; a refused reading has length 0.
     pub fn frame_length(self) -> usize
         ensures { λ r. ⌜ r ≡ lengthOf self ⌝ }
     {

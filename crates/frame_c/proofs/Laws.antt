@@ -4,7 +4,7 @@ use mathlib.Core.Bool.{Bool, true, false, cond}
 use mathlib.Core.List.{List, [], _∷_}
 use Prim.Native.Nat.{ℕ}
 use lib.Dec.{eqb}
-use Rattle.base.specs.Refusals.{refusedCell, refusedKind, unless, firstOf, Refusal, answer}
+use Rattle.base.specs.Refusals.{refusedCell, refusedKind, unless, firstOf, Refusal, answerBy}
 use Rattle.base.specs.Lists.{allOf}
 use Rattle.message.specs.declared.Sizes.{Sizes}
 use Rattle.message.specs.Message.{knownKind}
@@ -22,6 +22,6 @@ first-two true false ks = refl
 first-two false b ks = refl
 
 pub kind-found : (z : Sizes) (k : ℕ) (message : List (Refusal Field)) (bytes : List ℕ) (room : ℕ)
-    → answer (writeRefusals z (kindRefusal k ∷ message) bytes room) ≡ cond (eqb (kindAnswer z k) 0) (answer (writeRefusals z message bytes room)) (kindAnswer z k)
+    → answerBy (writeRefusals z (kindRefusal k ∷ message) bytes room) ≡ cond (eqb (kindAnswer z k) 0) (answerBy (writeRefusals z message bytes room)) (kindAnswer z k)
 unfolding allOf kindAnswer
 kind-found z k message bytes room = first-two (sizesFit z) (knownKind k) _

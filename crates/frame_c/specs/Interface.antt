@@ -5,7 +5,7 @@ use mathlib.Core.Bool.{cond}
 use mathlib.Core.List.{List, [], _∷_}
 use lib.ListN.{length}
 use lib.Dec.{eqb}
-use Rattle.base.specs.Refusals.{test, Refusal, refusal, answer, refusedKind}
+use Rattle.base.specs.Refusals.{test, Refusal, refusal, answerBy, refusedKind}
 use Rattle.message.specs.declared.Sizes.{Sizes}
 use Rattle.message.specs.declared.Numbers.{Numbers}
 use Rattle.message.specs.Message.{learn, knownKind, numbersOf, messageOf}
@@ -63,7 +63,7 @@ pub record Wrote (w : Written) (left : List ℕ) (r len : ℕ) (after : List ℕ
 unfoldable pub handedAnswer : Sizes → Numbers → ℕ → ℕ
 handedAnswer z f room =
     let m = messageOf f in
-    answer (writeRefusals z (kindRefusal (f .kind) ∷ refusalsOf z (numbersOf m)) (frameOf m) room)
+    answerBy (writeRefusals z (kindRefusal (f .kind) ∷ refusalsOf z (numbersOf m)) (frameOf m) room)
 
 unfoldable pub handedWritten : Sizes → Numbers → ℕ → Written
 handedWritten z f room = writtenWith (handedAnswer z f room) (frameOf (messageOf f))
@@ -76,7 +76,7 @@ unfoldable pub handedAnswerTo : Sizes → Numbers → ℕ → ℕ → ℕ
 handedAnswerTo z f set room =
     let m = messageOf f in
     let refusals = kindRefusal (f .kind) ∷ refusalsTo z (numbersOf m) set in
-    answer (writeRefusals z refusals (framesOf z m set) room)
+    answerBy (writeRefusals z refusals (framesOf z m set) room)
 
 unfoldable pub handedWrittenTo : Sizes → Numbers → ℕ → ℕ → Written
 handedWrittenTo z f set room =

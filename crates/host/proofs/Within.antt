@@ -76,17 +76,17 @@ idle-ok s number = refl
 -- ---- a step that was done and is fine: its host is within its limits, and writing refuses nothing in what it sends
 
 pub record Fine (s : Settings) (step : Stepped) : Type 0 where
-  pub answer : step .answer ≡ done
+  pub number : step .answer ≡ done
   pub kept : hostOk s (step .host) ≡ true
   pub writable : Writable s step
 
 fine-quiet : (s : Settings) (h : Host) → hostOk s h ≡ true → Fine s (quietWith h)
 unfolding writes
-fine-quiet s h e = record { answer = refl; kept = e; writable = tt }
+fine-quiet s h e = record { number = refl; kept = e; writable = tt }
 
 fine-sending : (s : Settings) (h : Host) (m : Message) (set : ℕ) → hostOk s h ≡ true → faultTo (sizesOf s) (numbersOf m) set ≡ 0 → Fine s (sendingWith h m set)
 unfolding writes
-fine-sending s h m set e f = record { answer = refl; kept = e; writable = f }
+fine-sending s h m set e f = record { number = refl; kept = e; writable = f }
 
 -- ---- time and restart
 
@@ -217,7 +217,7 @@ unfolding writes
 lawful s k h step f = record {
   unchanged = λ e. rw (ne-eqb k done e);
   carried-out = λ e. rw (eq-eqb k done e);
-  number = by-test (λ (x : Stepped). x .answer ≡ k) (eqb k done) step (refusedWith k h) (λ p. let e = eqb-true k done p in f e .answer ∙ sym e) (λ _. refl);
+  number = by-test (λ (x : Stepped). x .answer ≡ k) (eqb k done) step (refusedWith k h) (λ p. let e = eqb-true k done p in f e .number ∙ sym e) (λ _. refl);
   kept = λ o. by-test (λ (x : Stepped). hostOk s (x .host) ≡ true) (eqb k done) step (refusedWith k h) (λ p. f (eqb-true k done p) .kept) (λ _. o);
   writable = by-test (Writable s) (eqb k done) step (refusedWith k h) (λ p. f (eqb-true k done p) .writable) (λ _. tt);
 }

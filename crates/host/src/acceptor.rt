@@ -27,6 +27,7 @@ fn response_with(m: Head, a: Accepted) -> Message
 }
 
 impl Host {
+    // A ballot above the promise is promised, and answered with the accepted lease or empty.
     pub(super) fn on_prepare_request(self, m: Head) -> Stepped
         requires { ⌜ m .ballot .host < 16 ⌝ }
         ensures { λ r. ⌜ r ≡ onPrepareRequest self m ⌝ }
@@ -46,6 +47,7 @@ impl Host {
         )
     }
 
+    // A lease whose end is to come and whose ballot is not below the promise is accepted, and its ballot promised.
     pub(super) fn on_propose_request(self, m: Proposal) -> Stepped
         requires { ⌜ m .head .ballot .host < 16 ⌝ }
         ensures { λ r. ⌜ r ≡ onProposeRequest self m ⌝ }

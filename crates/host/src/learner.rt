@@ -30,6 +30,7 @@ impl Host {
         sending_with(after, m, quorum::others_of(s.n, self.number))
     }
 
+    // A holder whose end is to come is named, unless one of a ballot as high is named already.
     pub(super) fn on_learn(self, m: LearnedLease) -> Stepped
         ensures { λ r. ⌜ r ≡ onLearn self m ⌝ }
     {

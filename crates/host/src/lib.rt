@@ -37,6 +37,7 @@ pub const LAST_WAIT: u64 = 281479271677952;
 // The target of a message that is handed to a set of receivers: it is not looked at.
 const ANY_TARGET: u8 = 0;
 
+// A host's number in its cell, its clock, the tick at which its wait ends, and what it keeps of the sheet.
 pub struct Host {
     pub number: u8,
     pub clock: u64,
@@ -58,6 +59,7 @@ pub struct Stepped {
     pub receivers: u16,
 }
 
+// Whether settings and host are within their limits: 1 where not.
 pub fn host_ok(s: Settings, h: Host) -> bool
     ensures { λ r. ⌜ r ≡ hostOk s h ⌝ }
 {
@@ -188,6 +190,8 @@ impl Host {
         }
     }
 
+    // The clock rises by d; an accepted lease or a named holder whose end has come is dropped. Refused by 1
+    // and 15.
     pub fn advance(self, s: Settings, d: u64) -> Stepped
         ensures { λ r. ⌜ r ≡ advanceOf s self d ⌝ }
     {
@@ -217,6 +221,7 @@ impl Host {
         }
     }
 
+    // Everything but the clock is forgotten, and the host waits T + S ticks from now. Refused by 1.
     pub fn restart(self, s: Settings) -> Stepped
         ensures { λ r. ⌜ r ≡ restartOf s self ⌝ }
     {
@@ -226,6 +231,8 @@ impl Host {
         quiet_with(self.restarted_host(s))
     }
 
+    // Begins a round for a lease of so many ticks: any old round is dropped, and a prepare request goes to all
+    // hosts. Refused by 1, 9, 11 and 10, in this order.
     pub fn start(self, s: Settings, duration: u32) -> Stepped
         ensures { λ r. ⌜ r ≡ startOf s self duration ⌝ }
     {
@@ -302,36 +309,46 @@ impl Host {
         self.on_delivery(s, m)
     }
 
+    // Promises a ballot above its promise, and replies with the accepted lease or empty. Refused as `receive`.
     pub fn prepare_request(self, s: Settings, m: Head) -> Stepped
         ensures { λ r. ⌜ r ≡ receiveOf s self (PrepareRequest m) ⌝ }
     {
         self.receive(s, Message::PrepareRequest(m))
     }
 
+    // Counts an empty reply to the ballot that it asks; with a majority it proposes. Refused as `receive`.
     pub fn prepare_response_empty(self, s: Settings, m: Head) -> Stepped
         ensures { λ r. ⌜ r ≡ receiveOf s self (PrepareResponseEmpty m) ⌝ }
     {
         self.receive(s, Message::PrepareResponseEmpty(m))
     }
 
+    // Counts a reply that tells of a lease, unless that has ended, and keeps the one with the highest ballot;
+    // with a majority it proposes. Refused as `receive`.
     pub fn prepare_response_lease(self, s: Settings, m: LeaseResponse) -> Stepped
         ensures { λ r. ⌜ r ≡ receiveOf s self (PrepareResponseLease m) ⌝ }
     {
         self.receive(s, Message::PrepareResponseLease(m))
     }
 
+    // Accepts a lease whose end is to come and whose ballot is not below its promise, promises that ballot, and
+    // replies. Refused as `receive`.
     pub fn propose_request(self, s: Settings, m: Proposal) -> Stepped
         ensures { λ r. ⌜ r ≡ receiveOf s self (ProposeRequest m) ⌝ }
     {
         self.receive(s, Message::ProposeRequest(m))
     }
 
+    // Counts a vote for the ballot that it proposes; with a majority it names the owner and tells the others.
+    // Refused as `receive`.
     pub fn propose_response(self, s: Settings, m: Head) -> Stepped
         ensures { λ r. ⌜ r ≡ receiveOf s self (ProposeResponse m) ⌝ }
     {
         self.receive(s, Message::ProposeResponse(m))
     }
 
+    // Names the owner of a lease whose holder's end is to come, unless it names one of a ballot as high. Refused
+    // as `receive`.
     pub fn learn(self, s: Settings, m: LearnedLease) -> Stepped
         ensures { λ r. ⌜ r ≡ receiveOf s self (Learn m) ⌝ }
     {

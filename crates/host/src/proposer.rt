@@ -144,6 +144,7 @@ impl Host {
         self.on_counted_reply(s, a.replied, asking_after(a, m.sender, reply))
     }
 
+    // A reply is nothing to a host that asks nothing.
     pub(super) fn on_prepare_response(self, s: Settings, m: Head, reply: Accepted) -> Stepped
         requires { ⌜ (m .sender < 16) × (hostOk s self ≡ true) ⌝ }
         ensures { λ r. ⌜ r ≡ onPrepareResponse s self (self .state .round) m reply ⌝ }
@@ -202,6 +203,7 @@ impl Host {
         self.on_counted_vote(s, p.replied, proposing_after(p, m.sender))
     }
 
+    // A vote is nothing to a host that proposes nothing.
     pub(super) fn on_propose_response(self, s: Settings, m: Head) -> Stepped
         requires { ⌜ (m .sender < 16) × Placed s self ⌝ }
         ensures { λ r. ⌜ r ≡ onProposeResponse s self (self .state .round) m ⌝ }

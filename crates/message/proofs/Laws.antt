@@ -6,7 +6,7 @@ use Prim.Native.Nat.{ℕ, zero, suc, _≤_, _<_}
 use native.Mathlib.Omega.{arith}
 use lib.Dec.{ltb, leb, eqb}
 use borrow.Author.Tests.{ltb-true, leb-true, eqb-true, lt-ltb, le-ltb, le-leb, eq-eqb, ne-eqb}
-use Rattle.base.specs.Refusals.{firstOf, allHold, answer, refusedHost, refusedTick, refusedParty}
+use Rattle.base.specs.Refusals.{firstOf, allHold, answerBy, refusedHost, refusedTick, refusedParty}
 use Rattle.base.specs.Lists.{All, allOf}
 use Rattle.base.proofs.Tests.{both, unless-passed}
 use Rattle.base.proofs.Lists.{all-of-in, out-all-of}
@@ -101,7 +101,7 @@ pub record Passed (z : Sizes) (f : Numbers) (targetFits partyFits : Bool) : Type
   pub holdersEnd : f .holders .0 ≤ lastEnd
   pub party : partyFits ≡ true
 
-pub passed : (z : Sizes) (f : Numbers) (t p : Bool) → answer (messageRefusals z f t p) ≡ 0 → Passed z f t p
+pub passed : (z : Sizes) (f : Numbers) (t p : Bool) → answerBy (messageRefusals z f t p) ≡ 0 → Passed z f t p
 unfolding All
 passed z f t p e =
     let q1 = unless-passed (allHold (hostTests z f t)) refusedHost _ refl e in
@@ -123,7 +123,7 @@ passed z f t p e =
     }
 
 -- and where all that holds, nothing is refused
-pub passing : (z : Sizes) (f : Numbers) (t p : Bool) → Passed z f t p → answer (messageRefusals z f t p) ≡ 0
+pub passing : (z : Sizes) (f : Numbers) (t p : Bool) → Passed z f t p → answerBy (messageRefusals z f t p) ≡ 0
 unfolding firstOf All
 passing z f t p i =
     let n = z .n in

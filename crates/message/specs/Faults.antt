@@ -3,7 +3,7 @@ use Prim.Native.Nat.{ℕ}
 use mathlib.Core.Bool.{Bool, cond}
 use mathlib.Core.List.{List, [], _∷_}
 use lib.Dec.{ltb, leb, eqb}
-use Rattle.base.specs.Refusals.{Test, test, Refusal, refusal, answer, refusedHost, refusedTick, refusedParty}
+use Rattle.base.specs.Refusals.{Test, test, Refusal, refusal, answerBy, refusedHost, refusedTick, refusedParty}
 use Rattle.quorum.specs.Sets.{cellFits, isBelow, isOnly}
 use Rattle.message.specs.declared.Sizes.{Sizes}
 use Rattle.message.specs.declared.Numbers.{Numbers}
@@ -72,7 +72,7 @@ abbrev pub refusalsOf : Sizes → Numbers → List (Refusal Field)
 refusalsOf z f = messageRefusals z f (ltb (f .target) (z .n)) (partyFits f)
 
 unfoldable pub faultOf : Sizes → Numbers → ℕ
-faultOf z f = answer (refusalsOf z f)
+faultOf z f = answerBy (refusalsOf z f)
 
 -- a message to a set of receivers, its own target not looked at: the set names no host of n or more, and in a response none but the ballot's host
 unfoldable pub partyFitsTo : Numbers → ℕ → Bool
@@ -82,4 +82,4 @@ abbrev pub refusalsTo : Sizes → Numbers → ℕ → List (Refusal Field)
 refusalsTo z f set = messageRefusals z f (isBelow set (z .n)) (partyFitsTo f set)
 
 unfoldable pub faultTo : Sizes → Numbers → ℕ → ℕ
-faultTo z f set = answer (refusalsTo z f set)
+faultTo z f set = answerBy (refusalsTo z f set)

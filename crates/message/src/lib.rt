@@ -1,7 +1,7 @@
 // Ballots, the two ends of a lease, the six messages, their kinds, and what is refused in a message: 5, 6 and 7.
 ghost use mathlib.Core.Path.{_≡_};
 ghost use Prim.Native.Nat.{_+_, _-_, _≤_};
-ghost use Rattle.base.specs.Refusals.{allHold, answer};
+ghost use Rattle.base.specs.Refusals.{allHold, answerBy};
 ghost use Rattle.message.specs.Message.{lastEnd, isAbove, isSame, toHolders, toKeepers, knownKind, isResponse, headWith, numbersWith, numbersOf, headOf, messageOf, withTarget, addressedTo, targetOf};
 ghost use Rattle.message.specs.Faults.{sizesFit, hostTests, tickTests, messageRefusals, partyFits, partyFitsTo, faultOf, faultTo};
 use base::DONE;
@@ -14,6 +14,7 @@ pub struct Sizes {
     pub n: u8,
 }
 
+// Whether a cell may have so many hosts: 1 where not.
 pub fn sizes_fit(z: Sizes) -> bool
     ensures { λ r. ⌜ r ≡ sizesFit z ⌝ }
 {
@@ -26,6 +27,7 @@ pub const LAST_TICK: u64 = 281474976710656;
 // The last end of a lease, 2^48 + 2^31.
 pub const LAST_END: u64 = 281477124194304;
 
+// Ordered by tick, then by host.
 pub struct Ballot {
     pub tick: u64,
     pub host: u8,
@@ -42,6 +44,7 @@ impl Ballot {
         other.tick < self.tick
     }
 
+    // Whether this is the other ballot.
     pub fn is_same(self, other: Ballot) -> bool
         ensures { λ r. ⌜ r ≡ isSame self other ⌝ }
     {
@@ -89,6 +92,7 @@ pub struct Head {
     pub ballot: Ballot,
 }
 
+// The head of a message with this sender, target and ballot.
 pub fn head_with(sender: u8, target: u8, ballot: Ballot) -> Head
     ensures { λ r. ⌜ r ≡ headWith sender target ballot ⌝ }
 {
@@ -99,23 +103,27 @@ pub fn head_with(sender: u8, target: u8, ballot: Ballot) -> Head
     }
 }
 
+// A prepare response that tells of an accepted lease.
 pub struct LeaseResponse {
     pub head: Head,
     pub accepted: Lease,
 }
 
+// A propose request: the lease that is to be accepted.
 pub struct Proposal {
     pub head: Head,
     pub owner: u8,
     pub end: KeepersEnd,
 }
 
+// A learn message: the lease that was chosen, as its holder has it.
 pub struct LearnedLease {
     pub head: Head,
     pub owner: u8,
     pub end: HoldersEnd,
 }
 
+// The six messages, in the order of their kinds.
 pub enum Message {
     PrepareRequest(Head),
     PrepareResponseEmpty(Head),
@@ -169,6 +177,7 @@ pub struct Numbers {
     pub holders: HoldersEnd,
 }
 
+// The numbers of a message of this kind, from its parts.
 pub fn numbers_with(
     kind: u16,
     head: Head,
@@ -247,6 +256,7 @@ pub fn numbers_of(m: Message) -> Numbers
     }
 }
 
+// The head that these numbers have.
 pub fn head_of(f: Numbers) -> Head
     ensures { λ r. ⌜ r ≡ headOf f ⌝ }
 {
@@ -306,12 +316,14 @@ pub fn addressed_to(m: Message, host: u8) -> Message
     message_of(with_target(numbers_of(m), host))
 }
 
+// The host that a message is addressed to.
 pub fn target_of(m: Message) -> u8
     ensures { λ r. ⌜ r ≡ targetOf m ⌝ }
 {
     numbers_of(m).target
 }
 
+// Whether every host number is below n, the target's test being handed in: 5 where not.
 pub fn hosts_fit(z: Sizes, f: Numbers, target_ok: bool) -> bool
     ensures { λ r. ⌜ r ≡ allHold (hostTests z f «target_ok») ⌝ }
 {
@@ -319,6 +331,7 @@ pub fn hosts_fit(z: Sizes, f: Numbers, target_ok: bool) -> bool
         & (target_ok & ((f.ballot.host < z.n) & ((f.accepted.host < z.n) & (f.owner < z.n))))
 }
 
+// Whether every tick and every end is within its limit: 6 where not.
 pub fn ticks_fit(f: Numbers) -> bool
     ensures { λ r. ⌜ r ≡ allHold (tickTests f) ⌝ }
 {
@@ -328,7 +341,7 @@ pub fn ticks_fit(f: Numbers) -> bool
 
 // The number of the first refusal that a message's numbers meet, or 0, given what was found of its target and of its party.
 pub fn fault_with(z: Sizes, f: Numbers, target_ok: bool, party_ok: bool) -> u8
-    ensures { λ r. ⌜ r ≡ answer (messageRefusals z f «target_ok» «party_ok») ⌝ }
+    ensures { λ r. ⌜ r ≡ answerBy (messageRefusals z f «target_ok» «party_ok») ⌝ }
 {
     if hosts_fit(z, f, target_ok) {
         if ticks_fit(f) {

@@ -1,6 +1,7 @@
 // Words, numbers and line ends on standard output, for the programs that show what the libraries do.
 use libc::STDOUT_FILENO;
 
+// Writes these bytes as they are.
 pub fn word(text: &[u8]) {
     io::write_all(STDOUT_FILENO, text);
 }
@@ -21,6 +22,7 @@ fn wide(x: u8) -> u64 {
     x as u64
 }
 
+// Ends the line.
 pub fn line_end() {
     word(b"\n");
 }

@@ -17,6 +17,7 @@ pub enum Content {
     One(Message),
 }
 
+// One of the places for a message under way.
 pub struct Slot {
     pub content: Content,
 }
@@ -28,6 +29,7 @@ pub struct Turn {
     pub at: usize,
 }
 
+// Whether a slot holds nothing.
 pub fn is_empty(c: Content) -> bool
     ensures { λ r. ⌜ r ≡ isEmpty c ⌝ }
 {

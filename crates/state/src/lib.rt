@@ -40,6 +40,7 @@ pub struct Proposing {
     pub replied: u16,
 }
 
+// What a host is doing as proposer.
 pub enum Round {
     Idle,
     Asking(Asking),
@@ -91,6 +92,7 @@ pub fn sizes_of(s: Settings) -> Sizes
 
 // ---- the blank state
 
+// The state after opening or a restart: everything is none.
 pub fn blank_state() -> State
     ensures { λ r. ⌜ r ≡ blankState ⌝ }
 {
@@ -149,6 +151,7 @@ fn no_holder(m: Named) -> bool
     }
 }
 
+// Whether everything is none.
 pub fn is_blank_state(t: State) -> bool
     ensures { λ r. ⌜ r ≡ isBlankState t ⌝ }
 {
@@ -163,6 +166,7 @@ pub fn is_blank_state(t: State) -> bool
 
 // ---- limits
 
+// Whether n, T and S are in their ranges: 1 where not.
 pub fn settings_ok(s: Settings) -> bool
     ensures { λ r. ⌜ r ≡ settingsOk s ⌝ }
 {
@@ -177,6 +181,7 @@ pub fn duration_ok(s: Settings, duration: u32) -> bool
     duration as u64 + s.spread as u64 <= s.longest as u64
 }
 
+// Whether a ballot's tick and host are within their limits.
 pub fn ballot_ok(n: u8, b: Ballot) -> bool
     ensures { λ r. ⌜ r ≡ ballotOk n b ⌝ }
 {
@@ -190,6 +195,7 @@ pub fn lease_ok(n: u8, b: Ballot, owner: u8, end: u64) -> bool
     ballot_ok(n, b) & ((owner < n) & (end <= LAST_END))
 }
 
+// Whether the accepted lease is, if there is one.
 pub fn accepted_ok(n: u8, a: Accepted) -> bool
     ensures { λ r. ⌜ r ≡ acceptedOk n a ⌝ }
 {
@@ -199,6 +205,7 @@ pub fn accepted_ok(n: u8, a: Accepted) -> bool
     }
 }
 
+// Whether the promised ballot is, if there is one.
 pub fn promised_ok(n: u8, p: Promised) -> bool
     ensures { λ r. ⌜ r ≡ promisedOk n p ⌝ }
 {
@@ -208,6 +215,7 @@ pub fn promised_ok(n: u8, p: Promised) -> bool
     }
 }
 
+// Whether the last ballot's tick is, if there is one.
 pub fn last_ok(l: LastBallot) -> bool
     ensures { λ r. ⌜ r ≡ lastOk l ⌝ }
 {
@@ -217,6 +225,7 @@ pub fn last_ok(l: LastBallot) -> bool
     }
 }
 
+// Whether the named holder is, if there is one.
 pub fn named_ok(n: u8, m: Named) -> bool
     ensures { λ r. ⌜ r ≡ namedOk n m ⌝ }
 {
@@ -226,6 +235,7 @@ pub fn named_ok(n: u8, m: Named) -> bool
     }
 }
 
+// Whether an asking round is within its limits, and its ballot is of this host.
 pub fn asking_ok(s: Settings, number: u8, a: Asking) -> bool
     ensures { λ r. ⌜ r ≡ askingOk s number a ⌝ }
 {
@@ -236,6 +246,7 @@ pub fn asking_ok(s: Settings, number: u8, a: Asking) -> bool
                 & (quorum::is_below(a.replied, s.n) & accepted_ok(s.n, kept))))
 }
 
+// Whether a proposing round is within its limits, and its ballot is of this host.
 pub fn proposing_ok(s: Settings, number: u8, p: Proposing) -> bool
     ensures { λ r. ⌜ r ≡ proposingOk s number p ⌝ }
 {
@@ -243,6 +254,7 @@ pub fn proposing_ok(s: Settings, number: u8, p: Proposing) -> bool
         & (lease_ok(s.n, p.ballot, p.owner, p.end.0) & quorum::is_below(p.replied, s.n))
 }
 
+// Whether a round is, an idle one always.
 pub fn round_ok(s: Settings, number: u8, r: Round) -> bool
     ensures { λ v. ⌜ v ≡ roundOk s number r ⌝ }
 {
@@ -253,6 +265,7 @@ pub fn round_ok(s: Settings, number: u8, r: Round) -> bool
     }
 }
 
+// Whether all that a host of this number keeps is within its limits.
 pub fn state_ok(s: Settings, number: u8, t: State) -> bool
     ensures { λ r. ⌜ r ≡ stateOk s number t ⌝ }
 {
