@@ -1,48 +1,76 @@
-use Prim.Native.Nat.{_<_, _^_}
-use borrow.Author.Tests.{ltb-true}
+-- `write_to` gives `writtenTo` and leaves `afterWriteTo`: the answer found is the definition's, and
+-- where that is 0 the frames to the set's hosts are put at the front.
+use Prim.Native.Nat.{ℕ, _*_, _≤_, _^_}
+use mathlib.Core.Path.{_≡_, sym, _∙_}
+use native.Mathlib.Omega.{arith}
+use lib.Count.{ones}
+use lib.ListN.{length}
+use borrow.Author.Needs.{needs}
+use borrow.Author.Tests.{ne-eqb, ltb-true}
+use Rattle.base.proofs.Stores.{sets-front}
 use Rattle.quorum.specs.Sets.{members}
 use Rattle.quorum.proofs.Laws.{members-below}
-use Rattle.message.proofs.Laws.{passed-to}
-use mathlib.Core.Path.{_≡_, sym, _∙_}
-use Prim.Native.Nat.{_≤_}
-use native.Mathlib.Omega.{arith}
-use lib.ListN.{length}
-use borrow.Author.Tests.{ne-eqb}
-use Rattle.base.proofs.Tests.{told}
-use Rattle.base.proofs.Stores.{sets-front}
-use Rattle.message.proofs.Laws.{kind-known}
+use Rattle.message.specs.declared.Sizes.{Sizes}
+use Rattle.message.specs.declared.Message.{Message}
+use Rattle.message.specs.Message.{numbersOf}
+use Rattle.message.proofs.Laws.{kind-known, passed-to}
+use Rattle.layout.specs.Layout.{kindLength}
 use Rattle.layout.proofs.Laws.{length-most}
 use Rattle.frame.specs.Writing.{framesOf, answerTo, writtenTo, afterWriteTo}
-use Rattle.frame.proofs.Answers.{Free, answer-free, cell-most, length-to, found-to}
-use borrow.Author.Needs.{needs}
+use Rattle.frame.proofs.Answers.{answer-free, cell-most, length-to, found-to}
 use Rattle.frame.proofs.write_to.Statement.{statement}
 use Rattle.frame.proofs.write_to.Tie as tie
 
 -- the answer that was found is the definition's
-found : (c : tie.After-answer-of) → answerTo (c .before .before .before .before .before .before .args .z) (c .before .before .before .before .before .before .args .m) (c .before .before .before .before .before .before .args .set) (length (c .before .before .before .before .before .before .args .out .now)) ≡ c .answer-of .result
+found : (c : tie.After-answer-of) →
+    let measured = c .before .before .before in
+    let a = measured .before .before .before .args in
+    answerTo (a .z) (a .m) (a .set) (length (a .out .now)) ≡ c .answer-of .result
 found c =
-    let a = c .before .before .before .before .before .before .args in
-    rw (c .answer-of .ensures, c .before .fault-to .ensures, c .before .before .total-of .ensures, c .before .before .before .kind-length .ensures, c .before .before .before .before .numbers-of .ensures)
-    (sym (found-to (a .z) (a .m) (a .set) (length (a .out .now))))
+    let summed = c .before .before in
+    let measured = summed .before in
+    rw (
+      c .answer-of .ensures,
+      c .before .fault-to .ensures,
+      summed .total-of .ensures,
+      measured .kind-length .ensures,
+      measured .before .numbers-of .ensures,
+    )
+    (sym (found-to _ _ _ _))
 
--- where nothing was refused, the cell fits and the frames' length is what was computed
-free : (c : tie.Else1) → Free (c .before .before .before .before .before .before .before .args .z) (c .before .before .fault-to .result) (c .before .before .before .total-of .result) (length (c .before .before .before .before .before .before .before .args .out .now))
-free c = answer-free _ _ _ _ (told (c .before .answer-of .ensures) (c .if1 .left))
+-- where nothing is refused: the frames' length is what was computed, they fit into the lent bytes,
+-- and the set's hosts below 16 are those below n
+record Passed (z : Sizes) (m : Message) (set total room : ℕ) : Type 0 where
+  long : length (framesOf z m set) ≡ total
+  fits : length (framesOf z m set) ≤ room
+  hosts : members 16 set ≡ members (z .n) set
 
-long : (c : tie.Else1) → length (framesOf (c .before .before .before .before .before .before .before .args .z) (c .before .before .before .before .before .before .before .args .m) (c .before .before .before .before .before .before .before .args .set)) ≡ c .before .before .before .total-of .result
-long c =
-    let a = c .before .before .before .before .before .before .before .args in
-    let e = told (c .before .before .fault-to .ensures) (free c .message) in
-    rw (c .before .before .before .total-of .ensures, c .before .before .before .before .kind-length .ensures, c .before .before .before .before .before .numbers-of .ensures)
-    (length-to (a .z) (a .m) (a .set) (rw (c .before .before .before .before .before .numbers-of .ensures) at e))
+passed-of : (z : Sizes) (m : Message) (set room : ℕ) → answerTo z m set room ≡ 0
+    → Passed z m set (ones set * kindLength (numbersOf m .kind)) room
+passed-of z m set room e =
+    let k = answer-free _ _ _ _ (found-to z m set room ∙ e) in
+    let long = length-to z m set (k .message) in
+    let in-n = ltb-true set (2 ^ z .n) (passed-to z (numbersOf m) set (k .message) .target) in
+    record {
+      long = long;
+      fits = omega (arith, long, k .fits);
+      hosts = members-below set (z .n) 16 in-n (omega (arith, cell-most z (k .cell)));
+    }
 
--- the set's hosts below 16 are those below n
-hosts : (c : tie.Else1) → members 16 (c .before .before .before .before .before .before .before .args .set) ≡ members (c .before .before .before .before .before .before .before .args .z .n) (c .before .before .before .before .before .before .before .args .set)
-hosts c =
-    let a = c .before .before .before .before .before .before .before .args in
-    let e = told (c .before .before .fault-to .ensures) (free c .message) in
-    let b : a .set < 2 ^ a .z .n = ltb-true (a .set) (2 ^ a .z .n) (passed-to (a .z) (c .before .before .before .before .before .numbers-of .result) (a .set) e .target) in
-    members-below (a .set) (a .z .n) 16 b (omega (arith, cell-most (a .z) (free c .cell)))
+passed : (c : tie.Else1) →
+    let summed = c .before .before .before in
+    let numbered = summed .before .before in
+    let a = numbered .before .before .args in
+    Passed (a .z) (a .m) (a .set) (summed .total-of .result) (length (a .out .now))
+passed c =
+    let summed = c .before .before .before in
+    let measured = summed .before in
+    rw (
+      summed .total-of .ensures,
+      measured .kind-length .ensures,
+      measured .before .numbers-of .ensures,
+    )
+    (passed-of _ _ _ _ (found (c .before) ∙ c .if1 .left))
 
 pub write-to-spec : {M : Type 1} → statement M
 unfolding writtenTo afterWriteTo framesOf
@@ -51,7 +79,9 @@ write-to-spec =
     (tie.spec
     (λ c κs. search needs)
     (λ c κs. search needs)
-    (λ c κs. rw (c .kind-length .ensures, c .before .numbers-of .ensures) (length-most _ (kind-known (c .before .before .before .args .m))))
+    (λ c κs.
+    rw (c .kind-length .ensures, c .before .numbers-of .ensures)
+    (length-most _ (kind-known (c .before .before .before .args .m))))
     (λ c κs. search needs)
     (λ c κs. search needs)
     (λ c.
@@ -59,13 +89,24 @@ write-to-spec =
     let e = ne-eqb _ _ (c .if1 .taken) in
     (rw (d, e), rw (d, e)))
     (λ c κs.
-    let k = free (c .before) in
-    let z = long (c .before) in
-    record { long = c .before .before .before .before .before .kind-length .ensures; room = rw (hosts (c .before), c .before .before .before .before .before .before .numbers-of .ensures) (omega (arith, z, k .fits)) })
+    let p = passed (c .before) in
+    let summed = c .before .before .before .before in
+    let measured = summed .before in
+    let numbers = measured .before .numbers-of in
+    record {
+      long = measured .kind-length .ensures;
+      room = rw (p .hosts, numbers .ensures) (p .fits);
+    })
     (λ c. search needs)
     (λ c.
-    let a = c .before .before .before .before .before .before .before .before .before .before .before .args in
-    let d = found (c .before .before .before .before .before) ∙ c .before .before .before .before .if1 .left in
-    let z = long (c .before .before .before .before) in
-    let k : length (framesOf (a .z) (a .m) (a .set)) ≤ length (a .out .now) = omega (arith, z, free (c .before .before .before .before) .fits) in
-    (rw (d, c .before .before .before .before .if1 .left, z), rw d (rw (c .before .before .put-set .ensures, hosts (c .before .before .before .before), c .before .before .before .before .before .before .before .before .before .numbers-of .ensures) (sets-front (framesOf (a .z) (a .m) (a .set)) (a .out .now) k)))))
+    let put = c .before .before in
+    let free = put .before .before in
+    let p = passed free in
+    let summed = free .before .before .before in
+    let numbered = summed .before .before in
+    let a = numbered .before .before .args in
+    let d = found (free .before) ∙ free .if1 .left in
+    let front = sets-front (framesOf (a .z) (a .m) (a .set)) (a .out .now) (p .fits) in (
+      rw (d, free .if1 .left, p .long),
+      rw d (rw (put .put-set .ensures, p .hosts, numbered .numbers-of .ensures) front),
+    )))
