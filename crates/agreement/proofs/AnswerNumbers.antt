@@ -23,7 +23,8 @@ use Rattle.cell.specs.declared.Event.{Event}
 use Rattle.cell.specs.declared.Event.the-variants.{AdvanceAll, AdvanceOne, Start, Deliver, Lose, Repeat, Restart}
 use Rattle.cell.specs.CellLimits.{hostAt, contentAt, clocksNear, cellOk}
 use Rattle.cell.specs.Events.{messagesIn, stepFull, advanceAllRefusal, advancedOne, advanceOneRefusal, startStep, startAtRefusal, deliverStep, deliverFull, deliverRefusal, loseRefusal, repeatRefusal, restartAtRefusal, refusalOf, eventOf}
-use Rattle.cell.proofs.Hosts.{Sized, by-advances}
+use Rattle.cell.specs.Claims.{Sized}
+use Rattle.cell.proofs.Hosts.{by-advances}
 use Rattle.cell.proofs.CellLimits.{cell-in}
 use Rattle.cell.proofs.Events.{answer-is}
 use Rattle.agreement.specs.Orders.{orderOf}

@@ -18,10 +18,11 @@ use Rattle.cell.specs.declared.Answered.{Answered}
 use Rattle.cell.specs.CellLimits.{hostAt, withHost, contentAt}
 use Rattle.cell.specs.Events.{cellOf, stepped, advancedAll, advancedOne, startStep, deliverStep, delivered, repeated, afterOf, eventOf}
 use Rattle.cell.specs.Runs.{run}
+use Rattle.cell.specs.Claims.{Sound}
 use Rattle.cell.proofs.Hosts.{by-host, all-below, all-above}
 use Rattle.cell.proofs.CellLimits.{n-of}
 use Rattle.cell.proofs.Events.{by-outcome}
-use Rattle.cell.proofs.StaysWithin.{Sound, kept-event}
+use Rattle.cell.proofs.StaysWithin.{kept-event}
 use Rattle.theory.proofs.Ballots.{le-or-lt}
 
 all-rises : (c : Cell) (d k : ℕ) → Sound c → hostAt c k .clock ≤ hostAt (advancedAll c d) k .clock

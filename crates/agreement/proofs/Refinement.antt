@@ -39,7 +39,8 @@ use Rattle.cell.specs.declared.Answered.{Answered}
 use Rattle.cell.specs.CellLimits.{hostAt, withHost, contentAt, clocksNear}
 use Rattle.cell.specs.Events.{cellOf, withSlots, sentTo, stepped, openedWith, advancedAll, advancedOne, advanceOneRefusal, startStep, startAtRefusal, deliverStep, delivered, repeated, restartAtRefusal, refusalOf, afterOf, eventOf}
 use Rattle.cell.specs.Runs.{opening, run}
-use Rattle.cell.proofs.Hosts.{Sized, sized-host, host-same, host-other, by-host, all-below, near-in}
+use Rattle.cell.specs.Claims.{Sized, Sound}
+use Rattle.cell.proofs.Hosts.{sized-host, host-same, host-other, by-host, all-below, near-in}
 use Rattle.cell.proofs.CellLimits.{CellIn, cell-in}
 use Rattle.cell.proofs.Events.{by-outcome, holds-sent}
 use Rattle.theory.specs.Ballots as N
@@ -48,7 +49,7 @@ use Rattle.theory.specs.Model.{World, Aged, aged, age, Reach, here, then}
 use Rattle.theory.proofs.Ballots.{le-or-lt}
 use Rattle.agreement.proofs.Translation.{asLease, asHolder, asMessage, message-to, setup, asHost, Stands, Acted, reach-then}
 use Rattle.agreement.proofs.HostActs.{acts-restart, acts-step}
-use Rattle.cell.proofs.StaysWithin.{Sound, host-passed, by-opening, opened-at, kept-event}
+use Rattle.cell.proofs.StaysWithin.{host-passed, by-opening, opened-at, kept-event}
 
 -- the message is sent in w
 abbrev pub SentIn : {s : Settings} → World (setup s) → Message → Type 0

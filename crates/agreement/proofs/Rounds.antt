@@ -31,10 +31,11 @@ use Rattle.cell.specs.declared.Answered.{Answered}
 use Rattle.cell.specs.CellLimits.{hostAt, withHost, contentAt}
 use Rattle.cell.specs.Events.{cellOf, stepped, openedWith, advancedAll, advancedOne, startStep, deliverStep, delivered, repeated, afterOf, eventOf}
 use Rattle.cell.specs.Runs.{opening, run}
+use Rattle.cell.specs.Claims.{Sound}
 use Rattle.cell.proofs.Hosts.{by-host, all-below, all-above}
 use Rattle.cell.proofs.CellLimits.{n-of}
 use Rattle.cell.proofs.Events.{by-outcome}
-use Rattle.cell.proofs.StaysWithin.{Sound, opened-at, by-opening, kept-event}
+use Rattle.cell.proofs.StaysWithin.{opened-at, by-opening, kept-event}
 use Rattle.theory.proofs.Ballots.{le-or-lt}
 use Rattle.agreement.specs.EveryRun.{repliedIn, repliedAt}
 

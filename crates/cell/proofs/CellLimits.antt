@@ -29,7 +29,8 @@ use Rattle.places.proofs.PlaceLimits.{own-host, blank-place, out-place, out-own
 use Rattle.cell.specs.declared.Cell.{Cell}
 use Rattle.cell.specs.CellLimits.{hostAt, contentAt, clocksNear, cellOk}
 use Rattle.cell.specs.Events.{openingRefusal, leastSettings}
-use Rattle.cell.proofs.Hosts.{Sized, near-in, out-near}
+use Rattle.cell.specs.Claims.{Sized}
+use Rattle.cell.proofs.Hosts.{near-in, out-near}
 
 -- opening that refuses nothing, and the least settings
 pub opens-in : (s : Settings) (clock : ℕ) → openingRefusal s clock ≡ done → Opens s clock

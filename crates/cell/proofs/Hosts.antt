@@ -18,11 +18,7 @@ use Rattle.places.proofs.Each.{length-each, each-below, each-above, first-each,
 use Rattle.cell.specs.declared.Cell.{Cell}
 use Rattle.cell.specs.CellLimits.{hostAt, withHost, clocksNear}
 use Rattle.cell.specs.Events.{hostsRefusal, advancedAll}
-
--- nine places and 96 slots
-pub record Sized (c : Cell) : Type 0 where
-  pub hosts : length (c .hosts) ≡ 9
-  pub slots : length (c .slots) ≡ 96
+use Rattle.cell.specs.Claims.{Sized}
 
 -- ---- one host replaced
 

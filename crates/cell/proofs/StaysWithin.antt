@@ -38,13 +38,10 @@ use Rattle.cell.specs.declared.Answered.{Answered}
 use Rattle.cell.specs.CellLimits.{hostAt, withHost, contentAt, clocksNear, cellOk}
 use Rattle.cell.specs.Events.{answeredWith, cellOf, withSlots, sentTo, stepped, openingRefusal, openedWith, leastSettings, openingOf, hostsRefusal, advanceAllRefusal, advancedAll, advancedOne, advanceOneRefusal, startStep, startAtRefusal, deliverStep, delivered, repeated, restartAtRefusal, refusalOf, afterOf, eventOf}
 use Rattle.cell.specs.Runs.{opening, run}
-use Rattle.cell.proofs.Hosts.{Sized, sized-host, by-host, sized-all, all-below, all-above, all-passed, near-in}
+use Rattle.cell.specs.Claims.{Sized, Sound}
+use Rattle.cell.proofs.Hosts.{sized-host, by-host, sized-all, all-below, all-above, all-passed, near-in}
 use Rattle.cell.proofs.CellLimits.{opens-in, least-opens, CellIn, cell-in, out-cell}
 use Rattle.cell.proofs.Events.{by-outcome, length-sent, holds-sent}
-
--- the sizes of a cell, and its limits
-abbrev pub Sound : Cell → Type 0
-Sound c = Sized c × (cellOk c ≡ true)
 
 -- ---- opening
 

@@ -1,3 +1,4 @@
 pub mod CellLimits
 pub mod Events
 pub mod Runs
+pub mod Claims

@@ -34,7 +34,8 @@ use Rattle.cell.specs.declared.Event.{Event}
 use Rattle.cell.specs.declared.Event.the-variants.{AdvanceAll, AdvanceOne, Start, Deliver, Lose, Repeat, Restart}
 use Rattle.cell.specs.CellLimits.{hostAt, withHost, contentAt, clocksNear, cellOk}
 use Rattle.cell.specs.Events.{answeredWith, answerWith, withSlots, hostRefusal, messagesIn, stepFull, sentTo, stepped, hostsRefusal, advanceAllRefusal, advancedAll, advanceOneRefusal, advancedOne, startStep, startAtRefusal, deliverStep, deliverFull, deliverRefusal, delivered, loseRefusal, repeatRefusal, repeated, restartAtRefusal, refusalOf, afterOf, eventOf}
-use Rattle.cell.proofs.Hosts.{Sized, sized-host, host-keeps, out-near}
+use Rattle.cell.specs.Claims.{Sized}
+use Rattle.cell.proofs.Hosts.{sized-host, host-keeps, out-near}
 use Rattle.cell.proofs.CellLimits.{cell-in, n-of, message-of}
 use Rattle.cell.proofs.StaysWithin.{host-passed, still-near}
 use Rattle.change.specs.declared.Change.{Change}

@@ -24,7 +24,7 @@ use Rattle.cell.specs.declared.Answered.{Answered}
 use Rattle.cell.specs.declared.Cell.{Cell}
 use Rattle.cell.specs.CellLimits.{hostAt, withHost, contentAt, clocksNear}
 use Rattle.cell.specs.Events.{answeredWith, cellOf, withSlots, messagesIn, advancedAll}
-use Rattle.cell.proofs.Hosts.{Sized}
+use Rattle.cell.specs.Claims.{Sized}
 use Rattle.cell.proofs.CellLimits.{n-of}
 use Rattle.change.specs.declared.Change.{Change}
 use Rattle.change.specs.Parts.{isAll, hostOf, changeOf, slotsAfter}

@@ -2,7 +2,8 @@ use borrow.Author.Needs.{needs}
 use Prim.Native.Nat.{_≤_, _-_}
 use native.Mathlib.Omega.{arith}
 use Rattle.cell.specs.Events.{cellOf}
-use Rattle.cell.proofs.StaysWithin.{Sound, opening-in, kept-event}
+use Rattle.cell.specs.Claims.{Sound}
+use Rattle.cell.proofs.StaysWithin.{opening-in, kept-event}
 use Rattle.play.proofs.round_within.Statement.{statement}
 use Rattle.play.proofs.round_within.Tie as tie
 

@@ -1,0 +1,13 @@
+-- The claims of specs/Claims.antt, proved. Assumes nothing.
+use Rattle.cell.specs.Claims.{Claims}
+use Rattle.cell.proofs.Events.{answer-is, refused-same, settings-same}
+use Rattle.cell.proofs.StaysWithin.{opening-in, kept-event}
+
+pub claims : Claims
+claims = record {
+  opened = opening-in;
+  kept = kept-event;
+  number = answer-is;
+  unchanged = refused-same;
+  settings = settings-same;
+}
