@@ -20,7 +20,8 @@ use Rattle.cell.proofs.StaysWithin.{opening-in, kept-run}
 use Rattle.agreement.proofs.Refinement.{Explained, explained-run, explained-opening}
 
 -- what a host of the cell names, it names in the world; a place at n or above names nobody
-named-in : {s : Settings} {c : Cell} {w : World (setup s)} → Explained s c w → CellIn c → (h o : ℕ) → Names c h o → (m : N.Holder) × (w .host h .named ≡ some m) × (m .owner ≡ o)
+named-in : {s : Settings} {c : Cell} {w : World (setup s)} → Explained s c w → CellIn c → (h o : ℕ)
+    → Names c h o → (m : N.Holder) × (w .host h .named ≡ some m) × (m .owner ≡ o)
 named-in {s} {c} {w} x i h o (k, e, q) = go (le-or-lt (s .n) h)
   where
     go : (s .n ≤ h) ⊎ (h < s .n) → (m : N.Holder) × (w .host h .named ≡ some m) × (m .owner ≡ o)

@@ -13,16 +13,20 @@ use Rattle.agreement.specs.CodeTie.{Played, opened, applied, CodeAgrees}
 use Rattle.agreement.proofs.Agreement.{agreement}
 
 -- one event more
-run-last : (c : Cell) (events : List Event) (e : Event) → run c (events ++ (e ∷ [])) ≡ cellOf (eventOf (run c events) e)
+run-last : (c : Cell) (events : List Event) (e : Event)
+    → run c (events ++ (e ∷ [])) ≡ cellOf (eventOf (run c events) e)
 unfolding run
 run-last c [] e = refl
 run-last c (d ∷ events) e = run-last (cellOf (eventOf c d)) events e
 
-played-run : (s : Settings) (clock : ℕ) {events : List Event} {c : Cell} → Played s clock events c → c ≡ run (opening s clock) events
+played-run : (s : Settings) (clock : ℕ) {events : List Event} {c : Cell} → Played s clock events c
+    → c ≡ run (opening s clock) events
 unfolding run
 played-run s clock (opened r q) = ap (λ (x : Answered). cellOf x) q
 played-run s clock (applied events c p e r q) =
-    ap (λ (x : Answered). cellOf x) q ∙ ap (λ (x : Cell). cellOf (eventOf x e)) (played-run s clock p) ∙ sym (run-last (opening s clock) events e)
+    ap (λ (x : Answered). cellOf x) q
+    ∙ ap (λ (x : Cell). cellOf (eventOf x e)) (played-run s clock p)
+    ∙ sym (run-last (opening s clock) events e)
 
 pub tied : CodeAgrees
 tied s clock events c p =

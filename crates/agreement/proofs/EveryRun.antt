@@ -23,7 +23,8 @@ pub every-run : EveryRun
 every-run s clock events =
     let c = run (opening s clock) events in
     let kept = kept-run (opening s clock) events (opening-in s clock) in
-    let open-rounds = undecided-run (opening s clock) events (opening-in s clock) (opening-undecided s clock) in
+    let open-rounds =
+    undecided-run (opening s clock) events (opening-in s clock) (opening-undecided s clock) in
     record {
       within = kept .1;
       never-1 = λ e. never-cell c e (kept .0) (kept .1);

@@ -17,7 +17,8 @@ use Rattle.message.specs.Message.{targetOf}
 use Rattle.message.proofs.Laws.{target-in}
 use Rattle.rules.specs.declared.Accepted.{Accepted}
 use Rattle.rules.specs.declared.Named.{Named}
-use Rattle.rules.proofs.Laws.{wait-is, LeaseAged, empty, over, live, lease-aged, HolderAged, nobody, dropped, stays, holder-aged}
+use Rattle.rules.proofs.Laws.{wait-is, LeaseAged, empty, over, live, lease-aged, HolderAged, nobody}
+use Rattle.rules.proofs.Laws.{dropped, stays, holder-aged}
 use Rattle.state.specs.declared.Settings.{Settings}
 use Rattle.state.specs.Ageing.{agedAt}
 use Rattle.state.specs.StateLimits.{settingsOk, sizesOf}
@@ -31,13 +32,18 @@ use Rattle.places.specs.Places.{unwaited, newHost}
 use Rattle.slots.specs.declared.Content.{Content}
 use Rattle.slots.specs.declared.Slot.{Slot}
 use Rattle.slots.specs.Slots.{freed}
-use Rattle.slots.proofs.Laws.{Holds, holds-map, holds-none, holds-freed, holds-placed, holds-at, Sendable}
+use Rattle.slots.proofs.Laws.{Holds, holds-map, holds-none, holds-freed, holds-placed, holds-at}
+use Rattle.slots.proofs.Laws.{Sendable}
 use Rattle.cell.specs.declared.Cell.{Cell}
 use Rattle.cell.specs.declared.Event.{Event}
-use Rattle.cell.specs.declared.Event.the-variants.{AdvanceAll, AdvanceOne, Start, Deliver, Lose, Repeat, Restart}
+use Rattle.cell.specs.declared.Event.the-variants.{AdvanceAll, AdvanceOne, Start, Deliver, Lose}
+use Rattle.cell.specs.declared.Event.the-variants.{Repeat, Restart}
 use Rattle.cell.specs.declared.Answered.{Answered}
 use Rattle.cell.specs.CellLimits.{hostAt, withHost, contentAt, clocksNear}
-use Rattle.cell.specs.Events.{cellOf, withSlots, sentTo, stepped, openedWith, advancedAll, advancedOne, advanceOneRefusal, startStep, startAtRefusal, deliverStep, delivered, repeated, restartAtRefusal, refusalOf, afterOf, eventOf}
+use Rattle.cell.specs.Events.{cellOf, withSlots, sentTo, stepped, openedWith, advancedAll}
+use Rattle.cell.specs.Events.{advancedOne, advanceOneRefusal, startStep, startAtRefusal}
+use Rattle.cell.specs.Events.{deliverStep, delivered, repeated, restartAtRefusal, refusalOf}
+use Rattle.cell.specs.Events.{afterOf, eventOf}
 use Rattle.cell.specs.Runs.{opening, run}
 use Rattle.cell.specs.Claims.{Sized, Sound}
 use Rattle.cell.proofs.Hosts.{sized-host, host-same, host-other, by-host, all-below, near-in}
@@ -47,7 +53,8 @@ use Rattle.theory.specs.Ballots as N
 use Rattle.theory.specs.Model as M
 use Rattle.theory.specs.Model.{World, Aged, aged, age, Reach, here, then}
 use Rattle.theory.proofs.Ballots.{le-or-lt}
-use Rattle.agreement.proofs.Translation.{asLease, asHolder, asMessage, message-to, setup, asHost, Stands, Acted, reach-then}
+use Rattle.agreement.proofs.Translation.{asLease, asHolder, asMessage, message-to, setup}
+use Rattle.agreement.proofs.Translation.{asHost, Stands, Acted, reach-then}
 use Rattle.agreement.proofs.HostActs.{acts-restart, acts-step}
 use Rattle.cell.proofs.StaysWithin.{host-passed, by-opening, opened-at, kept-event}
 
@@ -76,7 +83,8 @@ module _ {s : Settings} {c : Cell} {w : World (setup s)} (x : Explained s c w) w
   stayed = record { now = w; reach = here; explained = x }
 
   -- a host has taken a step that the theory takes for its own: so has the cell
-  pub explained-step : (h : ℕ) → h < 9 → Sized c → (ss : List Slot) → Holds (SentIn w) ss → (t : Stepped) → Acted s w h t → Next s w (stepped c h ss t)
+  pub explained-step : (h : ℕ) → h < 9 → Sized c → (ss : List Slot) → Holds (SentIn w) ss
+      → (t : Stepped) → Acted s w h t → Next s w (stepped c h ss t)
   unfolding stepped
   explained-step h few z ss q t a = record {
     now = a .now;
@@ -86,16 +94,19 @@ module _ {s : Settings} {c : Cell} {w : World (setup s)} (x : Explained s c w) w
       host = λ k b. stands k b (ℕ-discrete k h);
       beyond = λ k b. a .clocks k ∙ x .beyond k b ∙ sym (a .clocks 0);
       messages =
-          holds-sent (SentIn (a .now)) (c .settings .n) ss (t .sent) (t .receivers) (holds-map (SentIn w) (SentIn (a .now)) ss (λ m. a .kept (asMessage m)) q)
+          holds-sent (SentIn (a .now)) (c .settings .n) ss (t .sent) (t .receivers)
+          (holds-map (SentIn w) (SentIn (a .now)) ss (λ m. a .kept (asMessage m)) q)
           (λ m k e _. rw (message-to m k) (rw e at (a .sent)));
     };
   }
     where
-      stands : (k : ℕ) → k < s .n → Dec (k ≡ h) → Stands s (a .now) k (hostAt (withHost c h (t .host)) k)
+      stands : (k : ℕ) → k < s .n → Dec (k ≡ h)
+          → Stands s (a .now) k (hostAt (withHost c h (t .host)) k)
       stands k b (yes e) = rw (e, host-same c h (t .host) z few) (a .stands)
       stands k b (no d) =
           let e = x .host k b in
-          rw (host-other c h (t .host) k d) (record { host = a .others k d ∙ e .host; clock = a .clocks k ∙ e .clock })
+          rw (host-other c h (t .host) k d)
+          (record { host = a .others k d ∙ e .host; clock = a .clocks k ∙ e .clock })
 
 -- ---- time
 
@@ -107,15 +118,25 @@ pub record Older (s : Settings) (h k : Host) : Type 0 where
 older-same : (s : Settings) (h : Host) → Older s h h
 older-same s h = record {
   up = le-refl _;
-  ages = record { same-wait = refl; same-promised = refl; same-last = refl; same-round = refl; accepted-aged = inl refl; named-aged = λ n q. (q, inl refl) };
+  ages =
+      record {
+        same-wait = refl;
+        same-promised = refl;
+        same-last = refl;
+        same-round = refl;
+        accepted-aged = inl refl;
+        named-aged = λ n q. (q, inl refl);
+      };
 }
 
-older-lease : {clock : ℕ} {a b : Accepted} → LeaseAged clock a b → M.AgedLease clock (asLease a) (asLease b)
+older-lease : {clock : ℕ} {a b : Accepted} → LeaseAged clock a b
+    → M.AgedLease clock (asLease a) (asLease b)
 older-lease empty = inl refl
 older-lease (over l t) = inr (refl, _, refl, t)
 older-lease (live l t) = inl refl
 
-older-holder : {clock : ℕ} {m k : Named} → HolderAged clock m k → (before : ℕ) (n : N.Holder) → asHolder k ≡ some n → (asHolder m ≡ some n) × ((clock ≡ before) ⊎ (clock < n .end))
+older-holder : {clock : ℕ} {m k : Named} → HolderAged clock m k → (before : ℕ) (n : N.Holder)
+    → asHolder k ≡ some n → (asHolder m ≡ some n) × ((clock ≡ before) ⊎ (clock < n .end))
 older-holder nobody before n q = absurd (Option·none-ne-some n q)
 older-holder (dropped h t) before n q = absurd (Option·none-ne-some n q)
 older-holder (stays h t) before n q = (q, inr (let e : h .end .0 ≡ n .end = cc in omega (arith, t)))
@@ -136,15 +157,36 @@ older-advanced s h d = record {
 
 module _ {s : Settings} {c : Cell} {w : World (setup s)} (x : Explained s c w) where
   abbrev nameless : M.Host (setup s) → M.Host (setup s)
-  nameless v = record { wait = v .wait; promised = v .promised; last = v .last; accepted = v .accepted; round = v .round; named = none }
+  nameless v =
+      record {
+        wait = v .wait;
+        promised = v .promised;
+        last = v .last;
+        accepted = v .accepted;
+        round = v .round;
+        named = none;
+      }
 
   -- the cell's hosts are older: so is the world. What other numbers name is dropped, and their clocks follow host 0's.
-  pub explained-age : 1 ≤ s .n → (d : Cell) → d .settings ≡ c .settings → d .slots ≡ c .slots → ((h : ℕ) → h < s .n → Older s (hostAt c h) (hostAt d h))
-      → ((h k : ℕ) → h < s .n → k < s .n → hostAt d h .clock ≤ hostAt d k .clock + s .spread) → Next s w d
+  pub explained-age : 1 ≤ s .n → (d : Cell) → d .settings ≡ c .settings → d .slots ≡ c .slots
+      → ((h : ℕ) → h < s .n → Older s (hostAt c h) (hostAt d h))
+      → ((h k : ℕ) → h < s .n → k < s .n → hostAt d h .clock ≤ hostAt d k .clock + s .spread)
+      → Next s w d
   explained-age first d same-settings same-slots older near = record {
     now = aged w clock host;
-    reach = then here (age clock host (λ h. rises h (le-or-lt (s .n) h)) (λ h k. apart h k (le-or-lt (s .n) h) (le-or-lt (s .n) k)) (λ h. ages h (le-or-lt (s .n) h)));
-    explained = record { settings = same-settings ∙ x .settings; host = λ h i. record { host = host-in h i; clock = clock-in h i }; beyond = λ h i. clock-out h i ∙ sym (clock-in 0 first); messages = rw same-slots (x .messages) };
+    reach =
+        then here
+        (age clock host (λ h. rises h (le-or-lt (s .n) h))
+        (λ h k. apart h k (le-or-lt (s .n) h) (le-or-lt (s .n) k))
+        (λ h. ages h (le-or-lt (s .n) h)));
+    explained =
+        record {
+          settings = same-settings ∙ x .settings;
+          host = λ h i.
+              record { host = host-in h i; clock = clock-in h i };
+          beyond = λ h i. clock-out h i ∙ sym (clock-in 0 first);
+          messages = rw same-slots (x .messages);
+        };
   }
     where
       clock : ℕ → ℕ
@@ -167,9 +209,11 @@ module _ {s : Settings} {c : Cell} {w : World (setup s)} (x : Explained s c w) w
 
       rises : (h : ℕ) → (s .n ≤ h) ⊎ (h < s .n) → w .clock h ≤ clock h
       rises h (inr i) = omega (arith, x .host h i .clock, clock-in h i, older h i .up)
-      rises h (inl i) = omega (arith, x .beyond h i, x .host 0 first .clock, clock-out h i, older 0 first .up)
+      rises h (inl i) =
+          omega (arith, x .beyond h i, x .host 0 first .clock, clock-out h i, older 0 first .up)
 
-      apart : (h k : ℕ) → (s .n ≤ h) ⊎ (h < s .n) → (s .n ≤ k) ⊎ (k < s .n) → clock h ≤ clock k + s .spread
+      apart : (h k : ℕ) → (s .n ≤ h) ⊎ (h < s .n) → (s .n ≤ k) ⊎ (k < s .n)
+          → clock h ≤ clock k + s .spread
       apart h k (inr i) (inr j) = omega (arith, clock-in h i, clock-in k j, near h k i j)
       apart h k (inr i) (inl j) = omega (arith, clock-in h i, clock-out k j, near h 0 i first)
       apart h k (inl i) (inr j) = omega (arith, clock-out h i, clock-in k j, near 0 k first j)
@@ -179,54 +223,75 @@ module _ {s : Settings} {c : Cell} {w : World (setup s)} (x : Explained s c w) w
       ages h (inr i) =
           let e = x .host h i in
           subst₂ (λ a b. Aged a b (w .host h) (host h)) (sym (e .clock)) (sym (clock-in h i))
-          (subst₂ (λ v u. Aged (hostAt c h .clock) (hostAt d h .clock) v u) (sym (e .host)) (sym (host-in h i)) (older h i .ages))
+          (subst₂ (λ v u. Aged (hostAt c h .clock) (hostAt d h .clock) v u) (sym (e .host))
+          (sym (host-in h i)) (older h i .ages))
       ages h (inl i) =
           subst (λ u. Aged (w .clock h) (clock h) (w .host h) u) (sym (host-out h i))
-          (record { same-wait = refl; same-promised = refl; same-last = refl; same-round = refl; accepted-aged = inl refl; named-aged = λ n q. absurd (Option·none-ne-some n q) })
+          (record {
+            same-wait = refl;
+            same-promised = refl;
+            same-last = refl;
+            same-round = refl;
+            accepted-aged = inl refl;
+            named-aged = λ n q. absurd (Option·none-ne-some n q);
+          })
 
 -- ---- the events
 
-module _ {c : Cell} {w : World (setup (c .settings))} (x : Explained (c .settings) c w) (z : Sized c) (i : CellIn c) where
+module _ {c : Cell} {w : World (setup (c .settings))} (x : Explained (c .settings) c w)
+    (z : Sized c) (i : CellIn c) where
   -- a host under its own number
   stands : (h : ℕ) → h < c .settings .n → Stands (c .settings) w (hostAt c h .number) (hostAt c h)
-  stands h b = subst (λ k. Stands (c .settings) w k (hostAt c h)) (sym (i .number h b)) (x .host h b)
+  stands h b =
+      subst (λ k. Stands (c .settings) w k (hostAt c h)) (sym (i .number h b)) (x .host h b)
 
   numbers : SettingsIn (c .settings)
   numbers = settings-in (c .settings) (i .settings)
 
   -- a host has taken a step under its own number
-  after-step : (h : ℕ) → h < c .settings .n → (ss : List Slot) → Holds (SentIn w) ss → (t : Stepped) → Acted (c .settings) w (hostAt c h .number) t
+  after-step : (h : ℕ) → h < c .settings .n → (ss : List Slot) → Holds (SentIn w) ss → (t : Stepped)
+      → Acted (c .settings) w (hostAt c h .number) t
       → Next (c .settings) w (stepped c h ss t)
-  after-step h b ss q t a = explained-step x h (omega (arith, b, numbers .few)) z ss q t (subst (λ k. Acted (c .settings) w k t) (i .number h b) a)
+  after-step h b ss q t a =
+      explained-step x h (omega (arith, b, numbers .few)) z ss q t
+      (subst (λ k. Acted (c .settings) w k t) (i .number h b) a)
 
   after-advance-all : (d : ℕ) → Next (c .settings) w (advancedAll c d)
   unfolding advancedAll advancedHost
   after-advance-all d =
-      explained-age x (numbers .some) (advancedAll c d) refl refl (λ h b. rw (at h b) (older-advanced (c .settings) (hostAt c h) d))
+      explained-age x (numbers .some) (advancedAll c d) refl refl
+      (λ h b. rw (at h b) (older-advanced (c .settings) (hostAt c h) d))
       (λ h k a b. rw (at h a, at k b) (omega (arith, i .near h k a b)))
     where
       at : (h : ℕ) → h < c .settings .n → hostAt (advancedAll c d) h ≡ advancedHost (hostAt c h) d
       at h b = all-below c d z (numbers .few) h b
 
-  after-advance-one : (h d : ℕ) → advanceOneRefusal c h d ≡ done → Next (c .settings) w (advancedOne c h d)
+  after-advance-one : (h d : ℕ) → advanceOneRefusal c h d ≡ done
+      → Next (c .settings) w (advancedOne c h d)
   unfolding advanceOneRefusal advancedOne
   after-advance-one h d e =
       let p1 = host-passed c h _ e in
       let p2 = first-passed (advanceRefusal (c .settings) (hostAt c h) d) _ (p1 .1) in
       let p3 = unless-passed (clocksNear (withHost c h later)) refusedSpread [] refl (p2 .1) in
       explained-age x (numbers .some) (withHost c h later) refl refl
-      (λ k _. by-host c h later (Older (c .settings) (hostAt c k)) k (λ g. rw g (older-advanced (c .settings) (hostAt c h) d)) (older-same (c .settings) (hostAt c k)))
+      (λ k _.
+      by-host c h later (Older (c .settings) (hostAt c k)) k
+      (λ g. rw g (older-advanced (c .settings) (hostAt c h) d))
+      (older-same (c .settings) (hostAt c k)))
       (near-in (withHost c h later) (sized-host c h later z) (i .settings) (p3 .0))
     where
       later : Host
       later = advancedHost (hostAt c h) d
 
-  after-start : (h d : ℕ) → startAtRefusal c h d ≡ done → Next (c .settings) w (stepped c h (c .slots) (startStep c h d))
+  after-start : (h d : ℕ) → startAtRefusal c h d ≡ done
+      → Next (c .settings) w (stepped c h (c .slots) (startStep c h d))
   unfolding startAtRefusal
   after-start h d e =
       let p1 = host-passed c h _ e in
       let p2 = first-passed (startRefusal (c .settings) (hostAt c h) d) _ (p1 .1) in
-      after-step h (p1 .0) (c .slots) (x .messages) (startStep c h d) (acts-step (c .settings) (hostAt c h) (stands h (p1 .0)) (begins d) (host-in (c .settings) (hostAt c h) (i .host h (p1 .0))) (p2 .0))
+      after-step h (p1 .0) (c .slots) (x .messages) (startStep c h d)
+      (acts-step (c .settings) (hostAt c h) (stands h (p1 .0)) (begins d)
+      (host-in (c .settings) (hostAt c h) (i .host h (p1 .0))) (p2 .0))
 
   after-deliver : (k : ℕ) (t : Content) → contentAt c k ≡ t → Next (c .settings) w (delivered c k t)
   unfolding delivered
@@ -235,23 +300,33 @@ module _ {c : Cell} {w : World (setup (c .settings))} (x : Explained (c .setting
       let h = targetOf m in
       let f = holds-at (Sendable (sizesOf (c .settings))) (c .slots) k m (i .messages) e in
       let b = target-in (sizesOf (c .settings)) m f in
-      after-step h b (freed (c .slots) k) (holds-freed (SentIn w) (c .slots) k (x .messages)) (deliverStep c m)
-      (acts-step (c .settings) (hostAt c h) (stands h b) (gets m) (host-in (c .settings) (hostAt c h) (i .host h b)) (f, holds-at (SentIn w) (c .slots) k m (x .messages) e))
+      after-step h b (freed (c .slots) k) (holds-freed (SentIn w) (c .slots) k (x .messages))
+      (deliverStep c m)
+      (acts-step (c .settings) (hostAt c h) (stands h b) (gets m)
+      (host-in (c .settings) (hostAt c h) (i .host h b))
+      (f, holds-at (SentIn w) (c .slots) k m (x .messages) e))
 
   -- the slots may change as long as each message under way was sent
   after-slots : (ss : List Slot) → Holds (SentIn w) ss → Next (c .settings) w (withSlots c ss)
-  after-slots ss q = stayed (record { settings = refl; host = x .host; beyond = x .beyond; messages = q })
+  after-slots ss q =
+      stayed (record { settings = refl; host = x .host; beyond = x .beyond; messages = q })
 
   after-repeat : (k : ℕ) (t : Content) → contentAt c k ≡ t → Next (c .settings) w (repeated c t)
   unfolding repeated
   after-repeat k Content.Empty e = stayed x
-  after-repeat k (Content.One m) e = after-slots _ (holds-placed (SentIn w) (c .slots) m (x .messages) (holds-at (SentIn w) (c .slots) k m (x .messages) e))
+  after-repeat k (Content.One m) e =
+      after-slots _
+      (holds-placed (SentIn w) (c .slots) m (x .messages)
+      (holds-at (SentIn w) (c .slots) k m (x .messages) e))
 
-  after-restart : (h : ℕ) → restartAtRefusal c h ≡ done → Next (c .settings) w (withHost c h (restartedHost (c .settings) (hostAt c h)))
+  after-restart : (h : ℕ) → restartAtRefusal c h ≡ done
+      → Next (c .settings) w (withHost c h (restartedHost (c .settings) (hostAt c h)))
   unfolding restartAtRefusal stepped sentTo
   after-restart h e =
       let p = host-passed c h _ e in
-      after-step h (p .0) (c .slots) (x .messages) (quietWith (restartedHost (c .settings) (hostAt c h))) (acts-restart (c .settings) (hostAt c h) (stands h (p .0)))
+      after-step h (p .0) (c .slots) (x .messages)
+      (quietWith (restartedHost (c .settings) (hostAt c h)))
+      (acts-restart (c .settings) (hostAt c h) (stands h (p .0)))
 
   after-event : (e : Event) → refusalOf c e ≡ done → Next (c .settings) w (afterOf c e)
   unfolding refusalOf afterOf
@@ -264,13 +339,17 @@ module _ {c : Cell} {w : World (setup (c .settings))} (x : Explained (c .setting
   after-event (Restart h) p = after-restart h p
 
 -- a refused event hands back the same cell
-pub explained-event : {s : Settings} {c : Cell} {w : World (setup s)} (e : Event) → Sound c → Explained s c w → Next s w (cellOf (eventOf c e))
+pub explained-event : {s : Settings} {c : Cell} {w : World (setup s)} (e : Event) → Sound c
+    → Explained s c w → Next s w (cellOf (eventOf c e))
 explained-event {s} {c} {w} e o x =
     by-outcome (λ (r : Answered). Next s w (cellOf r)) c e
-    (λ p. subst (λ s. (w : World (setup s)) → Explained s c w → Next s w (afterOf c e)) (x .settings) (λ w x. after-event x (o .0) (cell-in c (o .0) (o .1)) e p) w x)
+    (λ p.
+    subst (λ s. (w : World (setup s)) → Explained s c w → Next s w (afterOf c e)) (x .settings)
+    (λ w x. after-event x (o .0) (cell-in c (o .0) (o .1)) e p) w x)
     (λ _. stayed x)
 
-pub explained-run : {s : Settings} {c : Cell} {w : World (setup s)} (es : List Event) → Sound c → Explained s c w → Next s w (run c es)
+pub explained-run : {s : Settings} {c : Cell} {w : World (setup s)} (es : List Event) → Sound c
+    → Explained s c w → Next s w (run c es)
 unfolding run
 explained-run [] o x = stayed x
 explained-run {s} {c} (e ∷ es) o x =
@@ -280,16 +359,22 @@ explained-run {s} {c} (e ∷ es) o x =
 
 -- ---- opening
 
-opened-host : (s : Settings) (clock h : ℕ) → s .n ≤ 9 → h < s .n → hostAt (openedWith s clock) h ≡ restartedHost s (unwaited clock h)
+opened-host : (s : Settings) (clock h : ℕ) → s .n ≤ 9 → h < s .n
+    → hostAt (openedWith s clock) h ≡ restartedHost s (unwaited clock h)
 unfolding newHost
 opened-host s clock h few b = opened-at s clock h few ∙ rw (lt-ltb h (s .n) b)
 
 -- a cell just opened is the theory's world just opened
-explained-opened : (s : Settings) (clock : ℕ) → settingsOk s ≡ true → Explained s (openedWith s clock) (M.opened clock)
+explained-opened : (s : Settings) (clock : ℕ) → settingsOk s ≡ true
+    → Explained s (openedWith s clock) (M.opened clock)
 unfolding openedWith restartedHost
 explained-opened s clock e = record {
   settings = refl;
-  host = λ h b. let p = opened-host s clock h (settings-in s e .few) b in record { host = rw (p, wait-is clock (s .longest) (s .spread)); clock = ap (λ (v : Host). v .clock) (sym p) };
+  host = λ h b. let p = opened-host s clock h (settings-in s e .few) b in
+      record {
+        host = rw (p, wait-is clock (s .longest) (s .spread));
+        clock = ap (λ (v : Host). v .clock) (sym p);
+      };
   beyond = λ h b. refl;
   messages = holds-none (SentIn (M.opened {𝒞 = setup s} clock));
 }
@@ -302,4 +387,7 @@ pub record Opened (c : Cell) : Type 0 where
 
 -- whatever the numbers
 pub explained-opening : (s : Settings) (clock : ℕ) → Opened (opening s clock)
-explained-opening = by-opening Opened (λ s clock o. record { settings = s; clock = clock; explained = explained-opened s clock (o .settings) })
+explained-opening =
+    by-opening Opened
+    (λ s clock o.
+    record { settings = s; clock = clock; explained = explained-opened s clock (o .settings) })

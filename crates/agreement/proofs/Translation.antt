@@ -13,7 +13,9 @@ use Rattle.quorum.specs.Sets.{bit, isMajority}
 use Rattle.quorum.proofs.Majorities.{majorities-meet}
 use Rattle.message.specs.declared.Ballot.{Ballot}
 use Rattle.message.specs.declared.Message.{Message}
-use Rattle.message.specs.declared.Message.the-variants.{PrepareRequest, PrepareResponseEmpty, PrepareResponseLease, ProposeRequest, ProposeResponse, Learn}
+use Rattle.message.specs.declared.Message.the-variants.{PrepareRequest, PrepareResponseEmpty}
+use Rattle.message.specs.declared.Message.the-variants.{PrepareResponseLease, ProposeRequest}
+use Rattle.message.specs.declared.Message.the-variants.{ProposeResponse, Learn}
 use Rattle.message.specs.Message.{isAbove, isSame, numbersOf, messageOf, addressedTo}
 use Rattle.rules.specs.declared.Promised.{Promised}
 use Rattle.rules.specs.declared.Accepted.{Accepted}
@@ -38,7 +40,8 @@ pub above-code : (a b : Ballot) → b .host < 16 → isAbove a b ≡ true → co
 unfolding isAbove
 above-code a b l e = go (eqb (a .tick) (b .tick)) refl e
   where
-    go : (t : Bool) → eqb (a .tick) (b .tick) ≡ t → cond t (ltb (b .host) (a .host)) (ltb (b .tick) (a .tick)) ≡ true → code b < code a
+    go : (t : Bool) → eqb (a .tick) (b .tick) ≡ t
+        → cond t (ltb (b .host) (a .host)) (ltb (b .tick) (a .tick)) ≡ true → code b < code a
     go true p q = omega (arith, eqb-true (a .tick) (b .tick) p, ltb-true (b .host) (a .host) q)
     go false p q = omega (arith, ltb-true (b .tick) (a .tick) q)
 
@@ -46,7 +49,8 @@ pub not-above-code : (a b : Ballot) → a .host < 16 → isAbove a b ≡ false �
 unfolding isAbove
 not-above-code a b l e = go (eqb (a .tick) (b .tick)) refl e
   where
-    go : (t : Bool) → eqb (a .tick) (b .tick) ≡ t → cond t (ltb (b .host) (a .host)) (ltb (b .tick) (a .tick)) ≡ false → code a ≤ code b
+    go : (t : Bool) → eqb (a .tick) (b .tick) ≡ t
+        → cond t (ltb (b .host) (a .host)) (ltb (b .tick) (a .tick)) ≡ false → code a ≤ code b
     go true p q = omega (arith, eqb-true (a .tick) (b .tick) p, ltb-false (b .host) (a .host) q)
     go false p q =
         let d = eqb-false (a .tick) (b .tick) p in
@@ -70,16 +74,20 @@ asLast (LastBallot.At t) = t + 1
 
 abbrev pub asLease : Accepted → Option N.Lease
 asLease Accepted.Nothing = none
-asLease (Accepted.One l) = some (record { ballot = code (l .ballot); owner = l .owner; end = l .end .0 })
+asLease (Accepted.One l) =
+    some (record { ballot = code (l .ballot); owner = l .owner; end = l .end .0 })
 
 abbrev pub asHolder : Named → Option N.Holder
 asHolder Named.Nobody = none
-asHolder (Named.One k) = some (record { ballot = code (k .ballot); owner = k .owner; end = k .end .0 })
+asHolder (Named.One k) =
+    some (record { ballot = code (k .ballot); owner = k .owner; end = k .end .0 })
 
 abbrev pub asMessage : Message → M.Message
 asMessage (PrepareRequest m) = M.prepareRequest (code (m .ballot))
 asMessage (PrepareResponseEmpty m) = M.prepareResponse (m .sender) (code (m .ballot)) none
-asMessage (PrepareResponseLease m) = M.prepareResponse (m .head .sender) (code (m .head .ballot)) (asLease (Accepted.One (m .accepted)))
+asMessage (PrepareResponseLease m) =
+    M.prepareResponse (m .head .sender) (code (m .head .ballot))
+    (asLease (Accepted.One (m .accepted)))
 asMessage (ProposeRequest m) = M.proposeRequest (code (m .head .ballot)) (m .owner) (m .end .0)
 asMessage (ProposeResponse m) = M.proposeResponse (m .sender) (code (m .ballot))
 asMessage (Learn m) = M.learn (code (m .head .ballot)) (m .owner) (m .end .0)
@@ -100,16 +108,28 @@ pub record Majority (n set : ℕ) : Type 0 where
   pub fits : set < 2 ^ n
   pub most : isMajority n set ≡ true
 
-pub majorities-share : (n p q : ℕ) → Majority n p → Majority n q → (x : ℕ) × (bit p x ≡ 1) × (bit q x ≡ 1)
-majorities-share n p q a b = let m = majorities-meet n p q (a .fits) (b .fits) (a .most) (b .most) in (m .0, m .2, m .3)
+pub majorities-share : (n p q : ℕ) → Majority n p → Majority n q → (x : ℕ) × (bit p x ≡ 1)
+    × (bit q x ≡ 1)
+majorities-share n p q a b =
+    let m = majorities-meet n p q (a .fits) (b .fits) (a .most) (b .most) in (m .0, m .2, m .3)
 
 abbrev pub setup : Settings → Setup
-setup s = record { longest = s .longest; spread = s .spread; Hosts = ℕ; In = λ x set. bit set x ≡ 1; Majority = Majority (s .n); meet = majorities-share (s .n) }
+setup s =
+    record {
+      longest = s .longest;
+      spread = s .spread;
+      Hosts = ℕ;
+      In = λ x set.
+          bit set x ≡ 1;
+      Majority = Majority (s .n);
+      meet = majorities-share (s .n);
+    }
 
 module _ (s : Settings) where
   abbrev pub asRound : Round → M.Round (setup s)
   asRound Round.Idle = M.idle
-  asRound (Round.Asking a) = M.asking (code (a .ballot)) (a .duration) (a .replied) (asLease (a .kept))
+  asRound (Round.Asking a) =
+      M.asking (code (a .ballot)) (a .duration) (a .replied) (asLease (a .kept))
   asRound (Round.Proposing p) = M.proposing (code (p .ballot)) (p .owner) (p .end .0) (p .replied)
 
   abbrev pub asHost : Host → M.Host (setup s)
@@ -146,18 +166,35 @@ module _ (s : Settings) where
     pub sent : Sends now (t .sent)
 
   -- nothing done
-  pub rested : {w : World (setup s)} {x : ℕ} (t : Stepped) → Stands w x (t .host) → Sends w (t .sent) → Acted w x t
-  rested {w} t e q = record { now = w; reach = here; stands = e; clocks = λ y. refl; others = λ y d. refl; kept = λ m q. q; sent = q }
+  pub rested : {w : World (setup s)} {x : ℕ} (t : Stepped) → Stands w x (t .host)
+      → Sends w (t .sent) → Acted w x t
+  rested {w} t e q =
+      record {
+        now = w;
+        reach = here;
+        stands = e;
+        clocks = λ y. refl;
+        others = λ y d.
+            refl;
+        kept = λ m q. q;
+        sent = q;
+      }
 
   -- one act of the theory
-  pub acted-once : {w : World (setup s)} {x : ℕ} {h : Host} → Stands w x h → (t : Stepped) (m : Option M.Message)
-      → Act (h .clock) (asHost h) (w .sent) x (asHost (t .host)) m → t .host .clock ≡ h .clock → Sends (put w x (asHost (t .host)) m) (t .sent) → Acted w x t
+  pub acted-once : {w : World (setup s)} {x : ℕ} {h : Host} → Stands w x h
+      → (t : Stepped) (m : Option M.Message)
+      → Act (h .clock) (asHost h) (w .sent) x (asHost (t .host)) m → t .host .clock ≡ h .clock
+      → Sends (put w x (asHost (t .host)) m) (t .sent) → Acted w x t
   acted-once {w} {x} {h} e t m a k q = record {
     now = put w x v m;
-    reach = then here (act x v m (subst₂ (λ c u. Act c u (w .sent) x v m) (sym (e .clock)) (sym (e .host)) a));
+    reach =
+        then here
+        (act x v m (subst₂ (λ c u. Act c u (w .sent) x v m) (sym (e .clock)) (sym (e .host)) a));
     stands = record { host = changed-here (w .host) x v; clock = e .clock ∙ sym k };
     clocks = λ y. refl;
-    others = changed-all (λ y u. y ≢ x → u ≡ w .host y) (w .host) x v (λ d. absurd (d refl)) (λ y d d'. refl);
+    others =
+        changed-all (λ y u. y ≢ x → u ≡ w .host y) (w .host) x v (λ d. absurd (d refl))
+        (λ y d d'. refl);
     kept = λ m' q. with-old m q;
     sent = q;
   }
@@ -165,12 +202,14 @@ module _ (s : Settings) where
       v : M.Host (setup s)
       v = asHost (t .host)
 
-  pub reach-then : {v w : World (setup s)} → Reach v w → {u : World (setup s)} → Reach u v → Reach u w
+  pub reach-then : {v w : World (setup s)} → Reach v w → {u : World (setup s)} → Reach u v
+      → Reach u w
   reach-then here r = r
   reach-then (then p a) r = then (reach-then p r) a
 
   -- one step after another, which leaves what the last leaves and sends what the last sends
-  pub acted-then : {w : World (setup s)} {x : ℕ} {t u : Stepped} (a : Acted w x t) → Acted (a .now) x u → Acted w x u
+  pub acted-then : {w : World (setup s)} {x : ℕ} {t u : Stepped} (a : Acted w x t)
+      → Acted (a .now) x u → Acted w x u
   acted-then a b = record {
     now = b .now;
     reach = reach-then (b .reach) (a .reach);

@@ -17,16 +17,19 @@ use Rattle.agreement.specs.Demand3.{Names}
 -- the code's cell after these events, each applied to the cell that the one before it left
 pub data Played (s : Settings) (clock : ℕ) : List Event → Cell → Type 0 where
   opened : (r : Answered) → r ≡ openingOf s clock → Played s clock [] (cellOf r)
-  applied : (events : List Event) (c : Cell) → Played s clock events c → (e : Event) (r : Answered) → r ≡ eventOf c e
+  applied : (events : List Event) (c : Cell) → Played s clock events c → (e : Event) (r : Answered)
+      → r ≡ eventOf c e
       → Played s clock (events ++ (e ∷ [])) (cellOf r)
 
 pub record Tied (s : Settings) (clock : ℕ) (events : List Event) (c : Cell) : Type 0 where
   -- the code's cell is the run of the events
   pub same : c ≡ run (opening s clock) events
   -- each host names what the rules give, or nobody
-  pub named : (h : ℕ) → hostAt c h .state .named ≡ hostAt (run (opening s clock) events) h .state .named
+  pub named : (h : ℕ)
+      → hostAt c h .state .named ≡ hostAt (run (opening s clock) events) h .state .named
   -- and any two that name a holder name the same owner
   pub agree : (h k o p : ℕ) → Names c h o → Names c k p → o ≡ p
 
 abbrev pub CodeAgrees : Type 0
-CodeAgrees = (s : Settings) (clock : ℕ) (events : List Event) (c : Cell) → Played s clock events c → Tied s clock events c
+CodeAgrees = (s : Settings) (clock : ℕ) (events : List Event) (c : Cell) → Played s clock events c
+    → Tied s clock events c

@@ -14,18 +14,21 @@ use Rattle.base.proofs.Tests.{both, and-true}
 
 -- ---- what holds of each element
 
-pub all-map : {A : Type 0} {P Q : A → Type 0} (xs : List A) → ((x : A) → P x → Q x) → All P xs → All Q xs
+pub all-map : {A : Type 0} {P Q : A → Type 0} (xs : List A) → ((x : A) → P x → Q x) → All P xs
+    → All Q xs
 unfolding All
 all-map [] f p = tt
 all-map (x ∷ xs) f p = (f x (p .0), all-map xs f (p .1))
 
-pub all-set : {A : Type 0} (P : A → Type 0) (xs : List A) (i : ℕ) (a : A) → All P xs → P a → All P (set xs i a)
+pub all-set : {A : Type 0} (P : A → Type 0) (xs : List A) (i : ℕ) (a : A) → All P xs → P a
+    → All P (set xs i a)
 unfolding All
 all-set P [] i a p q = tt
 all-set P (x ∷ xs) zero a p q = (q, p .1)
 all-set P (x ∷ xs) (suc i) a p q = (p .0, all-set P xs i a (p .1) q)
 
-pub all-at : {A : Type 0} (P : A → Type 0) (xs : List A) (i : ℕ) (d : A) → All P xs → P d → P (getD xs i d)
+pub all-at : {A : Type 0} (P : A → Type 0) (xs : List A) (i : ℕ) (d : A) → All P xs → P d
+    → P (getD xs i d)
 unfolding All
 all-at P [] i d p q = q
 all-at P (x ∷ xs) zero d p q = p .0
@@ -38,7 +41,8 @@ all-same P (suc n) a q = (q, all-same P n a q)
 
 -- ---- one element replaced
 
-pub by-place : {A : Type 0} (P : A → Type 0) (xs : List A) (h : ℕ) (x : A) (k : ℕ) (d : A) → (k ≡ h → P x) → P (getD xs k d) → P (getD (set xs h x) k d)
+pub by-place : {A : Type 0} (P : A → Type 0) (xs : List A) (h : ℕ) (x : A) (k : ℕ) (d : A)
+    → (k ≡ h → P x) → P (getD xs k d) → P (getD (set xs h x) k d)
 by-place P [] h x k d p q = q
 by-place P (y ∷ xs) zero x zero d p q = p refl
 by-place P (y ∷ xs) zero x (suc k) d p q = q
@@ -46,7 +50,8 @@ by-place P (y ∷ xs) (suc h) x zero d p q = q
 by-place P (y ∷ xs) (suc h) x (suc k) d p q = by-place P xs h x k d (λ e. p (ap suc e)) q
 
 -- two stores at different places, in either order
-pub set-set : {A : Type 0} (xs : List A) (i j : ℕ) (a b : A) → (i ≡ j → ⊥) → set (set xs i a) j b ≡ set (set xs j b) i a
+pub set-set : {A : Type 0} (xs : List A) (i j : ℕ) (a b : A) → (i ≡ j → ⊥)
+    → set (set xs i a) j b ≡ set (set xs j b) i a
 set-set [] i j a b d = refl
 set-set (x ∷ xs) zero zero a b d = absurd (d refl)
 set-set (x ∷ xs) zero (suc j) a b d = refl
@@ -56,11 +61,13 @@ set-set (x ∷ xs) (suc i) (suc j) a b d = ap (λ ys. x ∷ ys) (set-set xs i j 
 -- ---- from a place on
 
 -- the elements from i on are element i and the rest
-pub from-place : {A : Type 0} (xs : List A) (i : ℕ) (d : A) → i < length xs → drop i xs ≡ getD xs i d ∷ drop (i + 1) xs
+pub from-place : {A : Type 0} (xs : List A) (i : ℕ) (d : A) → i < length xs
+    → drop i xs ≡ getD xs i d ∷ drop (i + 1) xs
 from-place xs i d h = drop-cons xs i d h ∙ ap (λ (k : ℕ). getD xs i d ∷ drop k xs) (sym (add-one i))
 
 -- what owning a field that is an array of structs tells of its list
-pub length-mapped : {A B : Type 0} (f : A → B) (l : List A) (n : ℕ) → length (map f l) ≡ n → length l ≡ n
+pub length-mapped : {A B : Type 0} (f : A → B) (l : List A) (n : ℕ) → length (map f l) ≡ n
+    → length l ≡ n
 length-mapped f l n e = sym (length-map l f) ∙ e
 
 -- ---- a walk that tests each element: where it stands before place i, its next turn, a turn that fails, and its end
@@ -69,7 +76,8 @@ pub record Walked {A : Type 0} (f : ℕ → A → Bool) (n : ℕ) (xs : List A) 
   pub long : length xs ≡ n
   pub rest : every f 0 xs ≡ every f i (drop i xs)
 
-pub walked-first : {A : Type 0} (f : ℕ → A → Bool) (n : ℕ) (xs : List A) → length xs ≡ n → Walked f n xs 0
+pub walked-first : {A : Type 0} (f : ℕ → A → Bool) (n : ℕ) (xs : List A) → length xs ≡ n
+    → Walked f n xs 0
 walked-first f n xs e = record { long = e; rest = refl }
 
 module _ {A : Type 0} {f : ℕ → A → Bool} {n : ℕ} {xs : List A} {i : ℕ} (w : Walked f n xs i) where
@@ -87,11 +95,14 @@ module _ {A : Type 0} {f : ℕ → A → Bool} {n : ℕ} {xs : List A} {i : ℕ}
 
   pub walked-end : n ≤ i → every f 0 xs ≡ true
   unfolding every
-  walked-end h = let b : length xs ≤ i = omega (arith, h, w .long) in w .rest ∙ ap (every f i) (drop-of-length-le xs b)
+  walked-end h =
+      let b : length xs ≤ i = omega (arith, h, w .long) in
+      w .rest ∙ ap (every f i) (drop-of-length-le xs b)
 
 -- what such a walk tells of each place, and from each
 
-pub every-in : {A : Type 0} (f : ℕ → A → Bool) (i : ℕ) (xs : List A) (d : A) → every f i xs ≡ true → (k : ℕ) → k < length xs → f (i + k) (getD xs k d) ≡ true
+pub every-in : {A : Type 0} (f : ℕ → A → Bool) (i : ℕ) (xs : List A) (d : A) → every f i xs ≡ true
+    → (k : ℕ) → k < length xs → f (i + k) (getD xs k d) ≡ true
 unfolding every
 every-in f i [] d e k b = absurd (not-suc-le-zero b)
 every-in f i (x ∷ xs) d e zero b = rw (add-zero i) (both (f i x) (every f (suc i) xs) e .0)
@@ -99,12 +110,14 @@ every-in f i (x ∷ xs) d e (suc k) b =
     let g : i + suc k ≡ suc i + k = omega arith in
     rw g (every-in f (suc i) xs d (both (f i x) (every f (suc i) xs) e .1) k (le-of-suc-le-suc b))
 
-pub out-every : {A : Type 0} (f : ℕ → A → Bool) (i : ℕ) (xs : List A) (d : A) → ((k : ℕ) → k < length xs → f (i + k) (getD xs k d) ≡ true) → every f i xs ≡ true
+pub out-every : {A : Type 0} (f : ℕ → A → Bool) (i : ℕ) (xs : List A) (d : A)
+    → ((k : ℕ) → k < length xs → f (i + k) (getD xs k d) ≡ true) → every f i xs ≡ true
 unfolding every
 out-every f i [] d p = refl
 out-every f i (x ∷ xs) d p =
     and-true (f i x) _ (rw (add-zero i) at (p zero (omega arith)))
-    (out-every f (suc i) xs d (λ k b. let g : i + suc k ≡ suc i + k = omega arith in rw g at (p (suc k) (omega (arith, b)))))
+    (out-every f (suc i) xs d
+    (λ k b. let g : i + suc k ≡ suc i + k = omega arith in rw g at (p (suc k) (omega (arith, b)))))
 
 -- ---- tests that all have to hold: what they tell of each, and from each
 

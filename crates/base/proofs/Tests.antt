@@ -24,23 +24,27 @@ and-true true b p q = q
 and-true false b p q = p
 
 -- a claim about a choice, by the test
-pub by-test : {A : Type 0} (P : A → Type 0) (b : Bool) (x y : A) → (b ≡ true → P x) → (b ≡ false → P y) → P (cond b x y)
+pub by-test : {A : Type 0} (P : A → Type 0) (b : Bool) (x y : A) → (b ≡ true → P x)
+    → (b ≡ false → P y) → P (cond b x y)
 by-test P true x y f g = f refl
 by-test P false x y f g = g refl
 
 -- ---- answers
 
 -- where a list refuses nothing, its first number is 0, and the rest refuse nothing
-pub first-passed : (k : ℕ) (ks : List ℕ) → firstOf (k ∷ ks) ≡ done → (k ≡ done) × (firstOf ks ≡ done)
+pub first-passed : (k : ℕ) (ks : List ℕ) → firstOf (k ∷ ks) ≡ done → (k ≡ done)
+    × (firstOf ks ≡ done)
 unfolding firstOf
 first-passed k ks e = go (eqb k done) refl e
   where
-    go : (b : Bool) → eqb k done ≡ b → cond b (firstOf ks) k ≡ done → (k ≡ done) × (firstOf ks ≡ done)
+    go : (b : Bool) → eqb k done ≡ b → cond b (firstOf ks) k ≡ done → (k ≡ done)
+        × (firstOf ks ≡ done)
     go true p q = (eqb-true k done p, q)
     go false p q = absurd (eqb-false k done p q)
 
 -- the first test holds, and the rest refuse nothing
-pub unless-passed : (b : Bool) (k : ℕ) (ks : List ℕ) → eqb k done ≡ false → firstOf (unless b k ∷ ks) ≡ done → (b ≡ true) × (firstOf ks ≡ done)
+pub unless-passed : (b : Bool) (k : ℕ) (ks : List ℕ) → eqb k done ≡ false
+    → firstOf (unless b k ∷ ks) ≡ done → (b ≡ true) × (firstOf ks ≡ done)
 unless-passed b k ks n e = let p = first-passed (unless b k) ks e in (go b (p .0), p .1)
   where
     go : (b : Bool) → unless b k ≡ done → b ≡ true
@@ -54,15 +58,18 @@ first-next k ks e = rw e
 
 pub first-only : (k : ℕ) → firstOf (k ∷ []) ≡ k
 unfolding firstOf
-first-only k = by-test (λ (x : ℕ). x ≡ k) (eqb k done) done k (λ e. sym (eqb-true k done e)) (λ _. refl)
+first-only k =
+    by-test (λ (x : ℕ). x ≡ k) (eqb k done) done k (λ e. sym (eqb-true k done e)) (λ _. refl)
 
 -- what holds of each number that a list of refusals may give holds of its answer
-pub first-of : (P : ℕ → Type 0) (k : ℕ) (ks : List ℕ) → P k → (k ≡ done → P (firstOf ks)) → P (firstOf (k ∷ ks))
+pub first-of : (P : ℕ → Type 0) (k : ℕ) (ks : List ℕ) → P k → (k ≡ done → P (firstOf ks))
+    → P (firstOf (k ∷ ks))
 unfolding firstOf
 first-of P k ks p f = by-test P (eqb k done) (firstOf ks) k (λ e. f (eqb-true k done e)) (λ _. p)
 
 -- two lists that begin with the same number
-pub first-same : (k : ℕ) (ks ls : List ℕ) → (k ≡ done → firstOf ks ≡ firstOf ls) → firstOf (k ∷ ks) ≡ firstOf (k ∷ ls)
+pub first-same : (k : ℕ) (ks ls : List ℕ) → (k ≡ done → firstOf ks ≡ firstOf ls)
+    → firstOf (k ∷ ks) ≡ firstOf (k ∷ ls)
 unfolding firstOf
 first-same k ks ls f = go (eqb k done) refl
   where
@@ -80,12 +87,14 @@ unfolding firstOf
 first-append [] ls = refl
 first-append (k ∷ ks) ls = go (eqb k done) refl (first-append ks ls)
   where
-    go : (b : Bool) → eqb k done ≡ b → firstOf (ks ++ ls) ≡ firstOf (firstOf ks ∷ ls) → cond b (firstOf (ks ++ ls)) k ≡ firstOf (cond b (firstOf ks) k ∷ ls)
+    go : (b : Bool) → eqb k done ≡ b → firstOf (ks ++ ls) ≡ firstOf (firstOf ks ∷ ls)
+        → cond b (firstOf (ks ++ ls)) k ≡ firstOf (cond b (firstOf ks) k ∷ ls)
     go true p q = q
     go false p q = rw p
 
 -- a test that holds refuses nothing
-pub unless-next : (b : Bool) (k : ℕ) (ks : List ℕ) → b ≡ true → firstOf (unless b k ∷ ks) ≡ firstOf ks
+pub unless-next : (b : Bool) (k : ℕ) (ks : List ℕ) → b ≡ true
+    → firstOf (unless b k ∷ ks) ≡ firstOf ks
 unless-next b k ks e = first-next (unless b k) ks (ap (λ (x : Bool). unless x k) e)
 
 -- what holds of each number that a list of refusals may give holds of its answer
@@ -100,10 +109,12 @@ none-of P z = z
 pub last-of : (P : ℕ → Type 0) (k : ℕ) → P k → P (firstOf (k ∷ []))
 last-of P k p = rw (first-only k) p
 
-pub held : (P : ℕ → Type 0) (b : Bool) (k : ℕ) (ks : List ℕ) → b ≡ true → P (firstOf ks) → P (firstOf (unless b k ∷ ks))
+pub held : (P : ℕ → Type 0) (b : Bool) (k : ℕ) (ks : List ℕ) → b ≡ true → P (firstOf ks)
+    → P (firstOf (unless b k ∷ ks))
 held P b k ks e p = rw (unless-next b k ks e) p
 
-pub next : (P : ℕ → Type 0) (b : Bool) (k : ℕ) (ks : List ℕ) → eqb k done ≡ false → P k → (b ≡ true → P (firstOf ks)) → P (firstOf (unless b k ∷ ks))
+pub next : (P : ℕ → Type 0) (b : Bool) (k : ℕ) (ks : List ℕ) → eqb k done ≡ false → P k
+    → (b ≡ true → P (firstOf ks)) → P (firstOf (unless b k ∷ ks))
 unfolding firstOf
 next P true k ks n p f = f refl
 next P false k ks n p f = rw n p

@@ -49,7 +49,8 @@ pub record CellIn (c : Cell) : Type 0 where
   pub number : (h : ℕ) → h < c .settings .n → hostAt c h .number ≡ h
   pub host : (h : ℕ) → h < c .settings .n → hostOk (c .settings) (hostAt c h) ≡ true
   pub blank : (h : ℕ) → c .settings .n ≤ h → hostAt c h ≡ blankHost
-  pub near : (h k : ℕ) → h < c .settings .n → k < c .settings .n → hostAt c h .clock ≤ hostAt c k .clock + c .settings .spread
+  pub near : (h k : ℕ) → h < c .settings .n → k < c .settings .n
+      → hostAt c h .clock ≤ hostAt c k .clock + c .settings .spread
   pub messages : Holds (Sendable (sizesOf (c .settings))) (c .slots)
 
 -- the five tests
@@ -65,7 +66,13 @@ unfolding cellOk All
 tests-in c e =
     let p = all-of-in _ e in
     let q = p .1 .1 in
-    record { settings = p .0; places = p .1 .0; states = q .0; clocks = q .1 .0; slots = q .1 .1 .0 }
+    record {
+      settings = p .0;
+      places = p .1 .0;
+      states = q .0;
+      clocks = q .1 .0;
+      slots = q .1 .1 .0;
+    }
 
 pub cell-in : (c : Cell) → Sized c → cellOk c ≡ true → CellIn c
 unfolding placesOk statesOk
@@ -73,10 +80,16 @@ cell-in c z e =
     let s = c .settings in
     let t = tests-in c e in
     let few = settings-in s (t .settings) .few in
-    let place : (h : ℕ) → h < 9 → placeOk s h (hostAt c h) ≡ true = λ h b. rw (zero-add h) at (every-in (placeOk s) 0 (c .hosts) blankHost (t .places) h (omega (arith, b, z .hosts))) in
-    let state : (h : ℕ) → h < 9 → ownStateOk s h (hostAt c h) ≡ true = λ h b. rw (zero-add h) at (every-in (ownStateOk s) 0 (c .hosts) blankHost (t .states) h (omega (arith, b, z .hosts))) in
+    let place : (h : ℕ) → h < 9 → placeOk s h (hostAt c h) ≡ true = λ h b.
+    rw (zero-add h) at
+    (every-in (placeOk s) 0 (c .hosts) blankHost (t .places) h (omega (arith, b, z .hosts))) in
+    let state : (h : ℕ) → h < 9 → ownStateOk s h (hostAt c h) ≡ true = λ h b.
+    rw (zero-add h) at
+    (every-in (ownStateOk s) 0 (c .hosts) blankHost (t .states) h (omega (arith, b, z .hosts))) in
     let own : (h : ℕ) → h < s .n → (hostAt c h .number ≡ h) × (hostOk s (hostAt c h) ≡ true) =
-    λ h b. own-host s h (hostAt c h) (t .settings) b (place h (omega (arith, b, few))) (state h (omega (arith, b, few))) in
+    λ h b.
+    own-host s h (hostAt c h) (t .settings) b (place h (omega (arith, b, few)))
+    (state h (omega (arith, b, few))) in
     record {
       settings = t .settings;
       number = λ h b. own h b .0;
@@ -86,7 +99,9 @@ cell-in c z e =
       messages = slots-in (sizesOf s) (c .slots) (t .slots);
     }
   where
-    go : (h : ℕ) → c .settings .n ≤ h → ((h : ℕ) → h < 9 → placeOk (c .settings) h (hostAt c h) ≡ true) → ((h : ℕ) → h < 9 → ownStateOk (c .settings) h (hostAt c h) ≡ true)
+    go : (h : ℕ) → c .settings .n ≤ h
+        → ((h : ℕ) → h < 9 → placeOk (c .settings) h (hostAt c h) ≡ true)
+        → ((h : ℕ) → h < 9 → ownStateOk (c .settings) h (hostAt c h) ≡ true)
         → Dec (h < 9) → hostAt c h ≡ blankHost
     go h b f g (yes p) = blank-place (c .settings) h (hostAt c h) b (f h p) (g h p)
     go h b f g (no q) = List·getD-eq-default (c .hosts) blankHost (omega (arith, z .hosts))
@@ -95,12 +110,32 @@ pub out-cell : (c : Cell) → Sized c → CellIn c → cellOk c ≡ true
 unfolding cellOk placesOk statesOk All
 out-cell c z i =
     let s = c .settings in
-    let places = out-every (placeOk s) 0 (c .hosts) blankHost (λ h _. rw (zero-add h) (go h (decLt h (s .n)) .0)) in
-    let states = out-every (ownStateOk s) 0 (c .hosts) blankHost (λ h _. rw (zero-add h) (go h (decLt h (s .n)) .1)) in
-    out-all-of _ (i .settings, (places, (states, (out-near c z (i .settings) (i .near), (out-slots (sizesOf s) (c .slots) (i .messages), tt)))))
+    let places =
+    out-every (placeOk s) 0 (c .hosts) blankHost
+    (λ h _. rw (zero-add h) (go h (decLt h (s .n)) .0)) in
+    let states =
+    out-every (ownStateOk s) 0 (c .hosts) blankHost
+    (λ h _. rw (zero-add h) (go h (decLt h (s .n)) .1)) in
+    out-all-of _ (
+      i .settings,
+      (
+        places,
+        (
+          states,
+          (
+            out-near c z (i .settings) (i .near),
+            (out-slots (sizesOf s) (c .slots) (i .messages), tt),
+          ),
+        ),
+      ),
+    )
   where
-    go : (h : ℕ) → Dec (h < c .settings .n) → (placeOk (c .settings) h (hostAt c h) ≡ true) × (ownStateOk (c .settings) h (hostAt c h) ≡ true)
-    go h (yes p) = (out-place (c .settings) h (hostAt c h) p (i .number h p) (i .host h p), out-own-state (c .settings) h (hostAt c h) p (i .number h p) (i .host h p))
+    go : (h : ℕ) → Dec (h < c .settings .n) → (placeOk (c .settings) h (hostAt c h) ≡ true)
+        × (ownStateOk (c .settings) h (hostAt c h) ≡ true)
+    go h (yes p) = (
+      out-place (c .settings) h (hostAt c h) p (i .number h p) (i .host h p),
+      out-own-state (c .settings) h (hostAt c h) p (i .number h p) (i .host h p),
+    )
     go h (no q) = out-blank (c .settings) h (hostAt c h) (omega arith) (i .blank h (omega arith))
 
 -- ---- what the limits tell with no word on lengths
@@ -110,5 +145,8 @@ pub n-of : (c : Cell) → cellOk c ≡ true → SettingsIn (c .settings)
 n-of c e = settings-in (c .settings) (tests-in c e .settings)
 
 -- writing to its target refuses nothing in a message under way
-pub message-of : (c : Cell) (i : ℕ) (m : Message) → cellOk c ≡ true → contentAt c i ≡ Content.One m → faultOf (sizesOf (c .settings)) (numbersOf m) ≡ done
-message-of c i m e f = holds-at (Sendable (sizesOf (c .settings))) (c .slots) i m (slots-in (sizesOf (c .settings)) (c .slots) (tests-in c e .slots)) f
+pub message-of : (c : Cell) (i : ℕ) (m : Message) → cellOk c ≡ true → contentAt c i ≡ Content.One m
+    → faultOf (sizesOf (c .settings)) (numbersOf m) ≡ done
+message-of c i m e f =
+    holds-at (Sendable (sizesOf (c .settings))) (c .slots) i m
+    (slots-in (sizesOf (c .settings)) (c .slots) (tests-in c e .slots)) f

@@ -21,27 +21,35 @@ use Rattle.slots.specs.Slots.{empties}
 use Rattle.slots.proofs.Laws.{Holds, holds-placed-each, length-placed-each, freed-counts}
 use Rattle.cell.specs.declared.Cell.{Cell}
 use Rattle.cell.specs.declared.Event.{Event}
-use Rattle.cell.specs.declared.Event.the-variants.{AdvanceAll, AdvanceOne, Start, Deliver, Lose, Repeat, Restart}
+use Rattle.cell.specs.declared.Event.the-variants.{AdvanceAll, AdvanceOne, Start, Deliver}
+use Rattle.cell.specs.declared.Event.the-variants.{Lose, Repeat, Restart}
 use Rattle.cell.specs.declared.Answered.{Answered}
 use Rattle.cell.specs.CellLimits.{contentAt}
-use Rattle.cell.specs.Events.{answeredWith, cellOf, messagesIn, sentTo, stepped, advancedAll, advancedOne, deliverStep, countedFor, deliverFull, delivered, repeated, refusalOf, afterOf, eventOf}
+use Rattle.cell.specs.Events.{answeredWith, cellOf, messagesIn, sentTo, stepped, advancedAll}
+use Rattle.cell.specs.Events.{advancedOne, deliverStep, countedFor, deliverFull, delivered}
+use Rattle.cell.specs.Events.{repeated, refusalOf, afterOf, eventOf}
 
 -- ---- both outcomes
 
 -- what holds of both outcomes of an event holds of it
-pub by-outcome : (P : Answered → Type 0) (c : Cell) (e : Event) → (refusalOf c e ≡ done → P (answeredWith done (afterOf c e)))
+pub by-outcome : (P : Answered → Type 0) (c : Cell) (e : Event)
+    → (refusalOf c e ≡ done → P (answeredWith done (afterOf c e)))
     → ((refusalOf c e ≡ done → ⊥) → P (answeredWith (refusalOf c e) c)) → P (eventOf c e)
 unfolding eventOf
 by-outcome P c e f g =
-    by-test P (eqb (refusalOf c e) done) (answeredWith done (afterOf c e)) (answeredWith (refusalOf c e) c)
+    by-test P (eqb (refusalOf c e) done) (answeredWith done (afterOf c e))
+    (answeredWith (refusalOf c e) c)
     (λ p. f (eqb-true (refusalOf c e) done p)) (λ p. g (eqb-false (refusalOf c e) done p))
 
 pub answer-is : (c : Cell) (e : Event) → eventOf c e .answer ≡ refusalOf c e
 answer-is c e = by-outcome (λ (x : Answered). x .answer ≡ refusalOf c e) c e sym (λ _. refl)
 
 -- a refused event hands back the same cell
-pub refused-same : (c : Cell) (e : Event) → (eventOf c e .answer ≡ done → ⊥) → cellOf (eventOf c e) ≡ c
-refused-same c e = by-outcome (λ (x : Answered). (x .answer ≡ done → ⊥) → cellOf x ≡ c) c e (λ _ n. absurd (n refl)) (λ _ _. refl)
+pub refused-same : (c : Cell) (e : Event) → (eventOf c e .answer ≡ done → ⊥)
+    → cellOf (eventOf c e) ≡ c
+refused-same c e =
+    by-outcome (λ (x : Answered). (x .answer ≡ done → ⊥) → cellOf x ≡ c) c e
+    (λ _ n. absurd (n refl)) (λ _ _. refl)
 
 -- ---- the settings stay
 
@@ -66,27 +74,37 @@ after-settings c (Repeat i) = repeated-settings c (contentAt c i)
 after-settings c (Restart h) = refl
 
 pub settings-same : (c : Cell) (e : Event) → eventOf c e .settings ≡ c .settings
-settings-same c e = by-outcome (λ (x : Answered). x .settings ≡ c .settings) c e (λ _. after-settings c e) (λ _. refl)
+settings-same c e =
+    by-outcome (λ (x : Answered). x .settings ≡ c .settings) c e (λ _. after-settings c e)
+    (λ _. refl)
 
 -- ---- what a step sends
 
-pub length-sent : (n : ℕ) (ss : List Slot) (sent : Sent) (receivers : ℕ) → length (sentTo n ss sent receivers) ≡ length ss
+pub length-sent : (n : ℕ) (ss : List Slot) (sent : Sent) (receivers : ℕ)
+    → length (sentTo n ss sent receivers) ≡ length ss
 unfolding sentTo
 length-sent n ss Sent.Nothing receivers = refl
 length-sent n ss (Sent.One m) receivers = length-placed-each ss m (members n receivers)
 
-pub holds-sent : (P : Message → Type 0) (n : ℕ) (ss : List Slot) (sent : Sent) (receivers : ℕ) → Holds P ss
-    → ((m : Message) (h : ℕ) → sent ≡ Sent.One m → Member n receivers h → P (addressedTo m h)) → Holds P (sentTo n ss sent receivers)
+pub holds-sent : (P : Message → Type 0) (n : ℕ) (ss : List Slot) (sent : Sent) (receivers : ℕ)
+    → Holds P ss
+    → ((m : Message) (h : ℕ) → sent ≡ Sent.One m → Member n receivers h → P (addressedTo m h))
+    → Holds P (sentTo n ss sent receivers)
 unfolding sentTo
 holds-sent P n ss Sent.Nothing receivers p f = p
-holds-sent P n ss (Sent.One m) receivers p f = holds-placed-each P ss m (members n receivers) p (all-map (members n receivers) (λ h i. f m h refl i) (members-all n receivers))
+holds-sent P n ss (Sent.One m) receivers p f =
+    holds-placed-each P ss m (members n receivers) p
+    (all-map (members n receivers) (λ h i. f m h refl i) (members-all n receivers))
 
 -- ---- a delivery counts the slot that it frees as empty, so that what it sends to one host always fits
 
 freed-counted : (c : Cell) (i : ℕ) → i < length (c .slots) → 1 ≤ empties (countedFor c i)
 freed-counted c i b = freed-counts (c .slots) i b
 
-pub reply-fits : (c : Cell) (i : ℕ) (m : Message) → i < length (c .slots) → messagesIn (deliverStep c m .sent) (deliverStep c m .receivers) ≤ 1
+pub reply-fits : (c : Cell) (i : ℕ) (m : Message) → i < length (c .slots)
+    → messagesIn (deliverStep c m .sent) (deliverStep c m .receivers) ≤ 1
     → deliverFull c i (Content.One m) ≡ done
 unfolding deliverFull
-reply-fits c i m b k = rw (le-leb (messagesIn (deliverStep c m .sent) (deliverStep c m .receivers)) (empties (countedFor c i)) (omega (arith, freed-counted c i b)))
+reply-fits c i m b k =
+    rw (le-leb (messagesIn (deliverStep c m .sent) (deliverStep c m .receivers))
+    (empties (countedFor c i)) (omega (arith, freed-counted c i b)))

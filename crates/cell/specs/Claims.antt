@@ -29,6 +29,7 @@ pub record Claims : Type 0 where
   -- its answer is the refusal's number, or 0
   pub number : (c : Cell) (e : Event) → eventOf c e .answer ≡ refusalOf c e
   -- a refused event hands back the same cell
-  pub unchanged : (c : Cell) (e : Event) → (eventOf c e .answer ≡ done → ⊥) → cellOf (eventOf c e) ≡ c
+  pub unchanged : (c : Cell) (e : Event) → (eventOf c e .answer ≡ done → ⊥)
+      → cellOf (eventOf c e) ≡ c
   -- the settings stay
   pub settings : (c : Cell) (e : Event) → eventOf c e .settings ≡ c .settings

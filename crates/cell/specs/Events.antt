@@ -4,7 +4,8 @@ use Prim.Native.Nat.{ℕ}
 use mathlib.Core.Bool.{cond}
 use mathlib.Core.List.{List, [], _∷_}
 use lib.Dec.{ltb, leb, eqb}
-use Rattle.base.specs.Refusals.{done, unless, firstOf, test, Refusal, refusal, answerBy, refusedCell, refusedHost, refusedTick, refusedSpread}
+use Rattle.base.specs.Refusals.{done, unless, firstOf, test, Refusal, refusal, answerBy}
+use Rattle.base.specs.Refusals.{refusedCell, refusedHost, refusedTick, refusedSpread}
 use Rattle.quorum.specs.Sets.{sizeOf}
 use Rattle.message.specs.declared.Message.{Message}
 use Rattle.message.specs.Message.{lastTick, targetOf}
@@ -12,14 +13,16 @@ use Rattle.state.specs.declared.Settings.{Settings}
 use Rattle.state.specs.StateLimits.{OpeningField, openingClock, settingsTests}
 use Rattle.host.specs.declared.Sent.{Sent}
 use Rattle.host.specs.declared.Stepped.{Stepped}
-use Rattle.host.specs.Steps.{advanceRefusal, advancedHost, restartRefusal, restartedHost, startRefusal, onStart, onDelivery}
+use Rattle.host.specs.Steps.{advanceRefusal, advancedHost, restartRefusal, restartedHost}
+use Rattle.host.specs.Steps.{startRefusal, onStart, onDelivery}
 use Rattle.places.specs.Places.{newHosts, advancesRefusal, advancedHosts}
 use Rattle.slots.specs.declared.Slot.{Slot}
 use Rattle.slots.specs.declared.Content.{Content}
 use Rattle.slots.specs.Slots.{noMessages, slotRefusal, fullRefusal, placed, placedTo, freed}
 use Rattle.cell.specs.declared.Cell.{Cell}
 use Rattle.cell.specs.declared.Event.{Event}
-use Rattle.cell.specs.declared.Event.the-variants.{AdvanceAll, AdvanceOne, Start, Deliver, Lose, Repeat, Restart}
+use Rattle.cell.specs.declared.Event.the-variants.{AdvanceAll, AdvanceOne, Start, Deliver}
+use Rattle.cell.specs.declared.Event.the-variants.{Lose, Repeat, Restart}
 use Rattle.cell.specs.declared.Answered.{Answered}
 use Rattle.cell.specs.CellLimits.{hostAt, withHost, contentAt, clocksNear, cellOk}
 
@@ -59,12 +62,16 @@ sentTo n ss (Sent.One m) receivers = placedTo n ss m receivers
 
 -- a host's step carried into the cell, with these slots
 unfoldable pub stepped : Cell → ℕ → List Slot → Stepped → Cell
-stepped c h ss step = withSlots (withHost c h (step .host)) (sentTo (c .settings .n) ss (step .sent) (step .receivers))
+stepped c h ss step =
+    withSlots (withHost c h (step .host))
+    (sentTo (c .settings .n) ss (step .sent) (step .receivers))
 
 -- ---- opening: 1, 6
 
 abbrev pub openingRefusals : Settings → ℕ → List (Refusal OpeningField)
-openingRefusals s clock = refusal refusedCell (settingsTests s) ∷ refusal refusedTick (test openingClock (leb clock lastTick) ∷ []) ∷ []
+openingRefusals s clock =
+    refusal refusedCell (settingsTests s)
+    ∷ refusal refusedTick (test openingClock (leb clock lastTick) ∷ []) ∷ []
 
 unfoldable pub openingRefusal : Settings → ℕ → ℕ
 openingRefusal s clock = answerBy (openingRefusals s clock)
@@ -78,7 +85,8 @@ abbrev pub leastSettings : Settings
 leastSettings = record { n = 1; longest = 1; spread = 0 }
 
 unfoldable pub openingOf : Settings → ℕ → Answered
-openingOf s clock = answerWith (openingRefusal s clock) (openedWith leastSettings 0) (openedWith s clock)
+openingOf s clock =
+    answerWith (openingRefusal s clock) (openedWith leastSettings 0) (openedWith s clock)
 
 -- ---- advance all by d: 1, 15
 
@@ -90,7 +98,12 @@ unfoldable pub advanceAllRefusal : Cell → ℕ → ℕ
 advanceAllRefusal c d = firstOf (unless (cellOk c) refusedCell ∷ hostsRefusal c d ∷ [])
 
 unfoldable pub advancedAll : Cell → ℕ → Cell
-advancedAll c d = record { settings = c .settings; hosts = advancedHosts (c .settings) (c .hosts) d; slots = c .slots }
+advancedAll c d =
+    record {
+      settings = c .settings;
+      hosts = advancedHosts (c .settings) (c .hosts) d;
+      slots = c .slots;
+    }
 
 -- ---- advance one by d: 1, 5, 15, 14
 
@@ -136,7 +149,10 @@ deliverFull c i Content.Empty = done
 deliverFull c i (Content.One m) = stepFull (countedFor c i) (deliverStep c m)
 
 unfoldable pub deliverRefusal : Cell → ℕ → ℕ
-deliverRefusal c i = firstOf (unless (cellOk c) refusedCell ∷ slotRefusal i (contentAt c i) ∷ deliverFull c i (contentAt c i) ∷ [])
+deliverRefusal c i =
+    firstOf
+    (unless (cellOk c) refusedCell ∷ slotRefusal i (contentAt c i) ∷ deliverFull c i (contentAt c i)
+    ∷ [])
 
 -- 'empties the slot, then the receiver acts'
 unfoldable pub delivered : Cell → ℕ → Content → Cell
@@ -151,7 +167,9 @@ loseRefusal c i = firstOf (unless (cellOk c) refusedCell ∷ slotRefusal i (cont
 -- ---- repeat a slot: 1, 12, 13
 
 unfoldable pub repeatRefusal : Cell → ℕ → ℕ
-repeatRefusal c i = firstOf (unless (cellOk c) refusedCell ∷ slotRefusal i (contentAt c i) ∷ fullRefusal 1 (c .slots) ∷ [])
+repeatRefusal c i =
+    firstOf
+    (unless (cellOk c) refusedCell ∷ slotRefusal i (contentAt c i) ∷ fullRefusal 1 (c .slots) ∷ [])
 
 -- 'copies a slot's message into the lowest empty slot'
 unfoldable pub repeated : Cell → Content → Cell
@@ -161,7 +179,10 @@ repeated c (Content.One m) = withSlots c (placed (c .slots) m)
 -- ---- restart a host: 1, 5
 
 unfoldable pub restartAtRefusal : Cell → ℕ → ℕ
-restartAtRefusal c h = firstOf (unless (cellOk c) refusedCell ∷ hostRefusal c h ∷ restartRefusal (c .settings) (hostAt c h) ∷ [])
+restartAtRefusal c h =
+    firstOf
+    (unless (cellOk c) refusedCell ∷ hostRefusal c h ∷ restartRefusal (c .settings) (hostAt c h)
+    ∷ [])
 
 -- ---- any event: the number that it is refused by, and the cell where nothing is refused
 

@@ -9,8 +9,10 @@ use lib.Dec.{ltb}
 use lib.ListN.{getD, set}
 use lib.Seq.{set-getD}
 use borrow.Author.Tests.{lt-ltb, le-ltb, le-leb, lt-leb, ne-eqb}
-use Rattle.base.specs.Refusals.{done, unless, firstOf, refusedCell, refusedHost, refusedSlot, refusedSpread, refusedFull}
-use Rattle.base.proofs.Tests.{true-false, first-passed, first-next, first-only, first-same, first-found, unless-next}
+use Rattle.base.specs.Refusals.{done, unless, firstOf, refusedCell, refusedHost, refusedSlot}
+use Rattle.base.specs.Refusals.{refusedSpread, refusedFull}
+use Rattle.base.proofs.Tests.{true-false, first-passed, first-next, first-only, first-same}
+use Rattle.base.proofs.Tests.{first-found, unless-next}
 use Rattle.quorum.specs.Sets.{singleOf}
 use Rattle.quorum.proofs.Laws.{members-single}
 use Rattle.quorum.proofs.Majorities.{size-single}
@@ -21,25 +23,36 @@ use Rattle.state.specs.StateLimits.{sizesOf}
 use Rattle.host.specs.declared.Host.{Host}
 use Rattle.host.specs.declared.Sent.{Sent}
 use Rattle.host.specs.declared.Stepped.{Stepped}
-use Rattle.host.specs.Steps.{refusedWith, quietWith, sendingWith, advanceRefusal, advanceOf, advancedHost, restartRefusal, restartOf, restartedHost, startRefusal, startOf, onStart, receiveRefusal, receiveOf}
+use Rattle.host.specs.Steps.{refusedWith, quietWith, sendingWith, advanceRefusal, advanceOf}
+use Rattle.host.specs.Steps.{advancedHost, restartRefusal, restartOf, restartedHost, startRefusal}
+use Rattle.host.specs.Steps.{startOf, onStart, receiveRefusal, receiveOf}
 use Rattle.host.proofs.Refusals.{message-passed}
 use Rattle.host.proofs.Within.{lawful-advance, lawful-restart, lawful-start, lawful-message}
 use Rattle.host.proofs.Outcomes.{begins, gets, stays-step}
 use Rattle.slots.specs.declared.Slot.{Slot}
 use Rattle.slots.specs.declared.Content.{Content}
-use Rattle.slots.specs.Slots.{slotCount, emptySlot, isEmpty, slotRefusal, empties, fullRefusal, placed, placedEach, placedTo, freed}
+use Rattle.slots.specs.Slots.{slotCount, emptySlot, isEmpty, slotRefusal, empties, fullRefusal}
+use Rattle.slots.specs.Slots.{placed, placedEach, placedTo, freed}
 use Rattle.slots.specs.Parts.{slotAfter}
 use Rattle.cell.specs.declared.Cell.{Cell}
 use Rattle.cell.specs.declared.Event.{Event}
-use Rattle.cell.specs.declared.Event.the-variants.{AdvanceAll, AdvanceOne, Start, Deliver, Lose, Repeat, Restart}
+use Rattle.cell.specs.declared.Event.the-variants.{AdvanceAll, AdvanceOne, Start, Deliver, Lose}
+use Rattle.cell.specs.declared.Event.the-variants.{Repeat, Restart}
 use Rattle.cell.specs.CellLimits.{hostAt, withHost, contentAt, clocksNear, cellOk}
-use Rattle.cell.specs.Events.{answeredWith, answerWith, withSlots, hostRefusal, messagesIn, stepFull, sentTo, stepped, hostsRefusal, advanceAllRefusal, advancedAll, advanceOneRefusal, advancedOne, startStep, startAtRefusal, deliverStep, deliverFull, deliverRefusal, delivered, loseRefusal, repeatRefusal, repeated, restartAtRefusal, refusalOf, afterOf, eventOf}
+use Rattle.cell.specs.Events.{answeredWith, answerWith, withSlots, hostRefusal, messagesIn}
+use Rattle.cell.specs.Events.{stepFull, sentTo, stepped, hostsRefusal, advanceAllRefusal}
+use Rattle.cell.specs.Events.{advancedAll, advanceOneRefusal, advancedOne, startStep}
+use Rattle.cell.specs.Events.{startAtRefusal, deliverStep, deliverFull, deliverRefusal, delivered}
+use Rattle.cell.specs.Events.{loseRefusal, repeatRefusal, repeated, restartAtRefusal, refusalOf}
+use Rattle.cell.specs.Events.{afterOf, eventOf}
 use Rattle.cell.specs.Claims.{Sized}
 use Rattle.cell.proofs.Hosts.{sized-host, host-keeps, out-near}
 use Rattle.cell.proofs.CellLimits.{cell-in, n-of, message-of}
 use Rattle.cell.proofs.StaysWithin.{host-passed, still-near}
 use Rattle.change.specs.declared.Change.{Change}
-use Rattle.change.specs.Parts.{change, stepOf, isAll, ticksOf, slotOf, targetIn, hostOf, deliverChange, loseChange, repeatChange, changeOf, slotsAfter, changeRefusal, changed}
+use Rattle.change.specs.Parts.{change, stepOf, isAll, ticksOf, slotOf, targetIn, hostOf}
+use Rattle.change.specs.Parts.{deliverChange, loseChange, repeatChange, changeOf, slotsAfter}
+use Rattle.change.specs.Parts.{changeRefusal, changed}
 
 -- ---- what stays
 
@@ -57,11 +70,13 @@ own-target : (m : Message) → addressedTo m (targetOf m) ≡ m
 unfolding addressedTo
 own-target m = message-numbers m
 
-own-sent : (n : ℕ) (ss : List Slot) (m : Message) → targetOf m < n → sentTo n ss (Sent.One m) (singleOf (targetOf m)) ≡ placed ss m
+own-sent : (n : ℕ) (ss : List Slot) (m : Message) → targetOf m < n
+    → sentTo n ss (Sent.One m) (singleOf (targetOf m)) ≡ placed ss m
 unfolding sentTo placedEach
 own-sent n ss m b = rw (members-single n (targetOf m) b, own-target m)
 
-own-full : (ss : List Slot) (h : Host) (m : Message) → stepFull ss (sendingWith h m (singleOf (targetOf m))) ≡ fullRefusal 1 ss
+own-full : (ss : List Slot) (h : Host) (m : Message)
+    → stepFull ss (sendingWith h m (singleOf (targetOf m))) ≡ fullRefusal 1 ss
 unfolding messagesIn
 own-full ss h m = rw (size-single (targetOf m))
 
@@ -77,7 +92,8 @@ all-is (Restart h) p = true-false (sym p)
 -- ---- a cell past its limits: 1, whatever the event
 
 past-refusal : (c : Cell) (e : Event) → cellOk c ≡ false → refusalOf c e ≡ refusedCell
-unfolding refusalOf advanceAllRefusal advanceOneRefusal startAtRefusal deliverRefusal loseRefusal repeatRefusal restartAtRefusal firstOf
+unfolding refusalOf advanceAllRefusal advanceOneRefusal startAtRefusal deliverRefusal loseRefusal
+    repeatRefusal restartAtRefusal firstOf
 past-refusal c (AdvanceAll d) o = rw o
 past-refusal c (AdvanceOne h d) o = rw o
 past-refusal c (Start h d) o = rw o
@@ -86,7 +102,8 @@ past-refusal c (Lose i) o = rw o
 past-refusal c (Repeat i) o = rw o
 past-refusal c (Restart h) o = rw o
 
-pub past-limits : (c : Cell) (e : Event) → cellOk c ≡ false → answeredWith refusedCell c ≡ eventOf c e
+pub past-limits : (c : Cell) (e : Event) → cellOk c ≡ false
+    → answeredWith refusedCell c ≡ eventOf c e
 unfolding eventOf
 past-limits c e o = sym (ap (λ (k : ℕ). answerWith k c (afterOf c e)) (past-refusal c e o))
 
@@ -96,52 +113,70 @@ target-small c i o = go (contentAt c i) refl
   where
     go : (t : Content) → contentAt c i ≡ t → targetIn t < 16
     go Content.Empty e = omega arith
-    go (Content.One m) e = omega (arith, n-of c o .few, target-in (sizesOf (c .settings)) m (message-of c i m o e))
+    go (Content.One m) e =
+        omega (arith, n-of c o .few, target-in (sizesOf (c .settings)) m (message-of c i m o e))
 
 -- ---- the rows, of a cell within its limits
 
 module _ (c : Cell) (z : Sized c) (o : cellOk c ≡ true) where
   -- a host whose clock did not move stays near
-  still-clocks : (h : ℕ) (x : Host) → x .clock ≡ hostAt c h .clock → clocksNear (withHost c h x) ≡ true
-  still-clocks h x t = let i = cell-in c z o in out-near (withHost c h x) (sized-host c h x z) (i .settings) (still-near c h x i t)
+  still-clocks : (h : ℕ) (x : Host) → x .clock ≡ hostAt c h .clock
+      → clocksNear (withHost c h x) ≡ true
+  still-clocks h x t =
+      let i = cell-in c z o in
+      out-near (withHost c h x) (sized-host c h x z) (i .settings) (still-near c h x i t)
 
   -- 14 and 13
   abbrev tail : ℕ → ℕ → Change → List ℕ
-  tail i h k = unless (clocksNear (withHost c h (k .host))) refusedSpread ∷ stepFull (slotsAfter c i k) (stepOf k) ∷ []
+  tail i h k =
+      unless (clocksNear (withHost c h (k .host))) refusedSpread
+      ∷ stepFull (slotsAfter c i k) (stepOf k) ∷ []
 
-  near-passed : (i h : ℕ) (k : Change) → clocksNear (withHost c h (k .host)) ≡ true → firstOf (tail i h k) ≡ stepFull (slotsAfter c i k) (stepOf k)
+  near-passed : (i h : ℕ) (k : Change) → clocksNear (withHost c h (k .host)) ≡ true
+      → firstOf (tail i h k) ≡ stepFull (slotsAfter c i k) (stepOf k)
   near-passed i h k e =
-      unless-next (clocksNear (withHost c h (k .host))) refusedSpread _ e ∙ first-only (stepFull (slotsAfter c i k) (stepOf k))
+      unless-next (clocksNear (withHost c h (k .host))) refusedSpread _ e
+      ∙ first-only (stepFull (slotsAfter c i k) (stepOf k))
 
-  still-passed : (i h : ℕ) (k : Change) → k .host .clock ≡ hostAt c h .clock → firstOf (tail i h k) ≡ stepFull (slotsAfter c i k) (stepOf k)
+  still-passed : (i h : ℕ) (k : Change) → k .host .clock ≡ hostAt c h .clock
+      → firstOf (tail i h k) ≡ stepFull (slotsAfter c i k) (stepOf k)
   still-passed i h k t = near-passed i h k (still-clocks h (k .host) t)
 
   cell-passed : (ks : List ℕ) → firstOf (unless (cellOk c) refusedCell ∷ ks) ≡ firstOf ks
   cell-passed ks = unless-next (cellOk c) refusedCell ks o
 
-  host-let : (h : ℕ) (ks : List ℕ) → h < c .settings .n → firstOf (hostRefusal c h ∷ ks) ≡ firstOf ks
-  host-let h ks b = unless-next (ltb h (c .settings .n)) refusedHost ks (lt-ltb h (c .settings .n) b)
+  host-let : (h : ℕ) (ks : List ℕ) → h < c .settings .n
+      → firstOf (hostRefusal c h ∷ ks) ≡ firstOf ks
+  host-let h ks b =
+      unless-next (ltb h (c .settings .n)) refusedHost ks (lt-ltb h (c .settings .n) b)
 
   -- an event at a host
-  host-row : (h : ℕ) (k : Change) (r : ℕ) (ks : List ℕ) → k .answer ≡ r → (r ≡ done → firstOf ks ≡ firstOf (tail 0 h k))
+  host-row : (h : ℕ) (k : Change) (r : ℕ) (ks : List ℕ) → k .answer ≡ r
+      → (r ≡ done → firstOf ks ≡ firstOf (tail 0 h k))
       → firstOf (unless (cellOk c) refusedCell ∷ hostRefusal c h ∷ r ∷ ks) ≡ changeRefusal c 0 h k
   unfolding changeRefusal
   host-row h k r ks e f =
       cell-passed _
-      ∙ first-same (hostRefusal c h) (r ∷ ks) (k .answer ∷ tail 0 h k) (λ _. first-same r ks (tail 0 h k) f ∙ ap (λ (x : ℕ). firstOf (x ∷ tail 0 h k)) (sym e))
+      ∙ first-same (hostRefusal c h) (r ∷ ks) (k .answer ∷ tail 0 h k)
+      (λ _. first-same r ks (tail 0 h k) f ∙ ap (λ (x : ℕ). firstOf (x ∷ tail 0 h k)) (sym e))
       ∙ sym (first-next (unless (ltb 0 slotCount) refusedSlot) _ refl)
 
-  host-after : (h r : ℕ) (ks : List ℕ) (step did : Stepped) → (r ≡ done → step ≡ did) → firstOf (unless (cellOk c) refusedCell ∷ hostRefusal c h ∷ r ∷ ks) ≡ done
+  host-after : (h r : ℕ) (ks : List ℕ) (step did : Stepped) → (r ≡ done → step ≡ did)
+      → firstOf (unless (cellOk c) refusedCell ∷ hostRefusal c h ∷ r ∷ ks) ≡ done
       → stepped c h (c .slots) did ≡ changed c 0 h (change step false)
-  host-after h r ks step did f e = rw (f (first-passed r ks (host-passed c h _ e .1) .0), keeps (c .slots) 0)
+  host-after h r ks step did f e =
+      rw (f (first-passed r ks (host-passed c h _ e .1) .0), keeps (c .slots) 0)
 
   -- an event at a slot: 12 where it is empty
-  slot-row : (i h : ℕ) (t : Content) (k : Change) (ks : List ℕ) → h < c .settings .n → firstOf (unless (not (isEmpty t)) refusedSlot ∷ ks) ≡ firstOf (k .answer ∷ tail i h k)
+  slot-row : (i h : ℕ) (t : Content) (k : Change) (ks : List ℕ) → h < c .settings .n
+      → firstOf (unless (not (isEmpty t)) refusedSlot ∷ ks) ≡ firstOf (k .answer ∷ tail i h k)
       → firstOf (unless (cellOk c) refusedCell ∷ slotRefusal i t ∷ ks) ≡ changeRefusal c i h k
   unfolding changeRefusal firstOf
   slot-row i h t k ks b f = cell-passed (slotRefusal i t ∷ ks) ∙ go (ltb i slotCount)
     where
-      go : (x : Bool) → firstOf (unless (x && not (isEmpty t)) refusedSlot ∷ ks) ≡ firstOf (unless x refusedSlot ∷ hostRefusal c h ∷ k .answer ∷ tail i h k)
+      go : (x : Bool)
+          → firstOf (unless (x && not (isEmpty t)) refusedSlot ∷ ks)
+          ≡ firstOf (unless x refusedSlot ∷ hostRefusal c h ∷ k .answer ∷ tail i h k)
       go true = f ∙ sym (host-let h (k .answer ∷ tail i h k) b)
       go false = refl
 
@@ -155,46 +190,75 @@ module _ (c : Cell) (z : Sized c) (o : cellOk c ≡ true) where
 
   -- ---- advance one, start, restart
 
-  one-refusal : (h d : ℕ) → advanceOneRefusal c h d ≡ changeRefusal c 0 h (change (advanceOf (c .settings) (hostAt c h) d) false)
+  one-refusal : (h d : ℕ)
+      → advanceOneRefusal c h d
+      ≡ changeRefusal c 0 h (change (advanceOf (c .settings) (hostAt c h) d) false)
   unfolding advanceOneRefusal advancedOne
   one-refusal h d =
       let s = c .settings in
       let x = hostAt c h in
-      host-row h (change (advanceOf s x d) false) (advanceRefusal s x d) _ (lawful-advance s x d .number)
-      (λ e. first-same (unless (clocksNear (withHost c h (advancedHost x d))) refusedSpread) [] _ (λ _. sym (first-next _ [] (quiet-full (slotsAfter c 0 (change (quietWith (advancedHost x d)) false)) (advancedHost x d))))
-      ∙ ap (λ (y : Stepped). firstOf (tail 0 h (change y false))) (sym (lawful-advance s x d .carried-out e)))
+      host-row h (change (advanceOf s x d) false) (advanceRefusal s x d) _
+      (lawful-advance s x d .number)
+      (λ e.
+      first-same (unless (clocksNear (withHost c h (advancedHost x d))) refusedSpread) [] _
+      (λ _.
+      sym (first-next _ []
+      (quiet-full (slotsAfter c 0 (change (quietWith (advancedHost x d)) false))
+      (advancedHost x d))))
+      ∙ ap (λ (y : Stepped). firstOf (tail 0 h (change y false)))
+      (sym (lawful-advance s x d .carried-out e)))
 
-  one-after : (h d : ℕ) → advanceOneRefusal c h d ≡ done → advancedOne c h d ≡ changed c 0 h (change (advanceOf (c .settings) (hostAt c h) d) false)
+  one-after : (h d : ℕ) → advanceOneRefusal c h d ≡ done
+      → advancedOne c h d ≡ changed c 0 h (change (advanceOf (c .settings) (hostAt c h) d) false)
   unfolding advanceOneRefusal advancedOne stepped sentTo
-  one-after h d = host-after h _ _ _ (quietWith (advancedHost (hostAt c h) d)) (lawful-advance (c .settings) (hostAt c h) d .carried-out)
+  one-after h d =
+      host-after h _ _ _ (quietWith (advancedHost (hostAt c h) d))
+      (lawful-advance (c .settings) (hostAt c h) d .carried-out)
 
-  start-refusal : (h d : ℕ) → startAtRefusal c h d ≡ changeRefusal c 0 h (change (startOf (c .settings) (hostAt c h) d) false)
+  start-refusal : (h d : ℕ)
+      → startAtRefusal c h d
+      ≡ changeRefusal c 0 h (change (startOf (c .settings) (hostAt c h) d) false)
   unfolding startAtRefusal
   start-refusal h d =
       let s = c .settings in
       let x = hostAt c h in
       let step = onStart s x d in
       host-row h (change (startOf s x d) false) (startRefusal s x d) _ (lawful-start s x d .number)
-      (λ e. first-only (stepFull (c .slots) step) ∙ ap (λ (ss : List Slot). stepFull ss step) (sym (keeps (c .slots) 0))
+      (λ e.
+      first-only (stepFull (c .slots) step)
+      ∙ ap (λ (ss : List Slot). stepFull ss step) (sym (keeps (c .slots) 0))
       ∙ sym (still-passed 0 h (change step false) (stays-step s x (begins d) .clock))
-      ∙ ap (λ (y : Stepped). firstOf (tail 0 h (change y false))) (sym (lawful-start s x d .carried-out e)))
+      ∙ ap (λ (y : Stepped). firstOf (tail 0 h (change y false)))
+      (sym (lawful-start s x d .carried-out e)))
 
-  start-after : (h d : ℕ) → startAtRefusal c h d ≡ done → stepped c h (c .slots) (startStep c h d) ≡ changed c 0 h (change (startOf (c .settings) (hostAt c h) d) false)
+  start-after : (h d : ℕ) → startAtRefusal c h d ≡ done
+      → stepped c h (c .slots) (startStep c h d)
+      ≡ changed c 0 h (change (startOf (c .settings) (hostAt c h) d) false)
   unfolding startAtRefusal
-  start-after h d = host-after h _ _ _ (startStep c h d) (lawful-start (c .settings) (hostAt c h) d .carried-out)
+  start-after h d =
+      host-after h _ _ _ (startStep c h d) (lawful-start (c .settings) (hostAt c h) d .carried-out)
 
-  restart-refusal : (h : ℕ) → restartAtRefusal c h ≡ changeRefusal c 0 h (change (restartOf (c .settings) (hostAt c h)) false)
+  restart-refusal : (h : ℕ)
+      → restartAtRefusal c h
+      ≡ changeRefusal c 0 h (change (restartOf (c .settings) (hostAt c h)) false)
   unfolding restartAtRefusal restartedHost firstOf
   restart-refusal h =
       let s = c .settings in
       let x = hostAt c h in
       let k = change (quietWith (restartedHost s x)) false in
       host-row h (change (restartOf s x) false) (restartRefusal s x) [] (lawful-restart s x .number)
-      (λ e. sym (still-passed 0 h k refl ∙ quiet-full (slotsAfter c 0 k) (restartedHost s x)) ∙ ap (λ (y : Stepped). firstOf (tail 0 h (change y false))) (sym (lawful-restart s x .carried-out e)))
+      (λ e.
+      sym (still-passed 0 h k refl ∙ quiet-full (slotsAfter c 0 k) (restartedHost s x))
+      ∙ ap (λ (y : Stepped). firstOf (tail 0 h (change y false)))
+      (sym (lawful-restart s x .carried-out e)))
 
-  restart-after : (h : ℕ) → restartAtRefusal c h ≡ done → withHost c h (restartedHost (c .settings) (hostAt c h)) ≡ changed c 0 h (change (restartOf (c .settings) (hostAt c h)) false)
+  restart-after : (h : ℕ) → restartAtRefusal c h ≡ done
+      → withHost c h (restartedHost (c .settings) (hostAt c h))
+      ≡ changed c 0 h (change (restartOf (c .settings) (hostAt c h)) false)
   unfolding restartAtRefusal stepped sentTo
-  restart-after h = host-after h _ _ _ (quietWith (restartedHost (c .settings) (hostAt c h))) (lawful-restart (c .settings) (hostAt c h) .carried-out)
+  restart-after h =
+      host-after h _ _ _ (quietWith (restartedHost (c .settings) (hostAt c h)))
+      (lawful-restart (c .settings) (hostAt c h) .carried-out)
 
   -- ---- deliver, lose, repeat: by what the slot holds
 
@@ -206,58 +270,85 @@ module _ (c : Cell) (z : Sized c) (o : cellOk c ≡ true) where
     in-reach m e = target-in (sizesOf (c .settings)) m (message-of c i m o e)
 
     -- a host refuses no message under way
-    passed : (m : Message) → contentAt c i ≡ Content.One m → receiveRefusal (c .settings) (hostAt c (targetOf m)) m ≡ done
+    passed : (m : Message) → contentAt c i ≡ Content.One m
+        → receiveRefusal (c .settings) (hostAt c (targetOf m)) m ≡ done
     passed m e =
         let j = cell-in c z o in
         let b = in-reach m e in
-        message-passed (c .settings) (hostAt c (targetOf m)) m (j .host (targetOf m) b) (message-of c i m o e) (sym (j .number (targetOf m) b))
+        message-passed (c .settings) (hostAt c (targetOf m)) m (j .host (targetOf m) b)
+        (message-of c i m o e) (sym (j .number (targetOf m) b))
 
-    steps : (m : Message) → contentAt c i ≡ Content.One m → receiveOf (c .settings) (hostAt c (targetOf m)) m ≡ deliverStep c m
+    steps : (m : Message) → contentAt c i ≡ Content.One m
+        → receiveOf (c .settings) (hostAt c (targetOf m)) m ≡ deliverStep c m
     steps m e = lawful-message (c .settings) (hostAt c (targetOf m)) m .carried-out (passed m e)
 
-    deliver-refusal : (t : Content) → contentAt c i ≡ t → firstOf (unless (cellOk c) refusedCell ∷ slotRefusal i t ∷ deliverFull c i t ∷ []) ≡ changeRefusal c i (targetIn t) (delivers t)
+    deliver-refusal : (t : Content) → contentAt c i ≡ t
+        → firstOf (unless (cellOk c) refusedCell ∷ slotRefusal i t ∷ deliverFull c i t ∷ [])
+        ≡ changeRefusal c i (targetIn t) (delivers t)
     unfolding deliverFull deliverChange slotAfter isEmpty firstOf
-    deliver-refusal Content.Empty e = slot-row i 0 Content.Empty (delivers Content.Empty) (deliverFull c i Content.Empty ∷ []) some refl
+    deliver-refusal Content.Empty e =
+        slot-row i 0 Content.Empty (delivers Content.Empty) (deliverFull c i Content.Empty ∷ [])
+        some refl
     deliver-refusal (Content.One m) e =
         let s = c .settings in
         let h = targetOf m in
         let k = change (deliverStep c m) true in
-        slot-row i h (Content.One m) (delivers (Content.One m)) (deliverFull c i (Content.One m) ∷ []) (in-reach m e)
+        slot-row i h (Content.One m) (delivers (Content.One m))
+        (deliverFull c i (Content.One m) ∷ []) (in-reach m e)
         (first-only (stepFull (freed (c .slots) i) (deliverStep c m))
         ∙ sym (still-passed i h k (stays-step s (hostAt c h) (gets m) .clock))
         ∙ ap (λ (y : Stepped). firstOf (tail i h (change y true))) (sym (steps m e))
-        ∙ sym (first-next (receiveOf s (hostAt c h) m .answer) (tail i h (delivers (Content.One m))) (lawful-message s (hostAt c h) m .number ∙ passed m e)))
+        ∙ sym
+        (first-next (receiveOf s (hostAt c h) m .answer) (tail i h (delivers (Content.One m)))
+        (lawful-message s (hostAt c h) m .number ∙ passed m e)))
 
-    deliver-after : (t : Content) → contentAt c i ≡ t → delivered c i t ≡ changed c i (targetIn t) (delivers t)
+    deliver-after : (t : Content) → contentAt c i ≡ t
+        → delivered c i t ≡ changed c i (targetIn t) (delivers t)
     unfolding delivered deliverChange slotAfter
     deliver-after Content.Empty e = sym (still-changed i refusedSlot)
-    deliver-after (Content.One m) e = ap (λ (y : Stepped). stepped c (targetOf m) (freed (c .slots) i) y) (sym (steps m e))
+    deliver-after (Content.One m) e =
+        ap (λ (y : Stepped). stepped c (targetOf m) (freed (c .slots) i) y) (sym (steps m e))
 
-    lose-refusal : (t : Content) → firstOf (unless (cellOk c) refusedCell ∷ slotRefusal i t ∷ []) ≡ changeRefusal c i 0 (loseChange (hostAt c 0) t)
+    lose-refusal : (t : Content)
+        → firstOf (unless (cellOk c) refusedCell ∷ slotRefusal i t ∷ [])
+        ≡ changeRefusal c i 0 (loseChange (hostAt c 0) t)
     unfolding loseChange isEmpty firstOf
-    lose-refusal Content.Empty = slot-row i 0 Content.Empty (loseChange (hostAt c 0) Content.Empty) [] some refl
+    lose-refusal Content.Empty =
+        slot-row i 0 Content.Empty (loseChange (hostAt c 0) Content.Empty) [] some refl
     lose-refusal (Content.One m) =
         let k = change (quietWith (hostAt c 0)) true in
-        slot-row i 0 (Content.One m) (loseChange (hostAt c 0) (Content.One m)) [] some (sym (still-passed i 0 k refl ∙ quiet-full (slotsAfter c i k) (hostAt c 0)))
+        slot-row i 0 (Content.One m) (loseChange (hostAt c 0) (Content.One m)) [] some
+        (sym (still-passed i 0 k refl ∙ quiet-full (slotsAfter c i k) (hostAt c 0)))
 
-    lose-after : (t : Content) → withSlots c (freed (c .slots) i) ≡ changed c i 0 (loseChange (hostAt c 0) t)
+    lose-after : (t : Content)
+        → withSlots c (freed (c .slots) i) ≡ changed c i 0 (loseChange (hostAt c 0) t)
     unfolding loseChange stepped sentTo slotAfter
-    lose-after Content.Empty = ap (λ (d : Cell). withSlots d (freed (c .slots) i)) (sym (host-keeps c 0))
-    lose-after (Content.One m) = ap (λ (d : Cell). withSlots d (freed (c .slots) i)) (sym (host-keeps c 0))
+    lose-after Content.Empty =
+        ap (λ (d : Cell). withSlots d (freed (c .slots) i)) (sym (host-keeps c 0))
+    lose-after (Content.One m) =
+        ap (λ (d : Cell). withSlots d (freed (c .slots) i)) (sym (host-keeps c 0))
 
-    repeat-refusal : (t : Content) → firstOf (unless (cellOk c) refusedCell ∷ slotRefusal i t ∷ fullRefusal 1 (c .slots) ∷ []) ≡ changeRefusal c i 0 (repeatChange (hostAt c 0) t)
+    repeat-refusal : (t : Content)
+        → firstOf (unless (cellOk c) refusedCell ∷ slotRefusal i t ∷ fullRefusal 1 (c .slots) ∷ [])
+        ≡ changeRefusal c i 0 (repeatChange (hostAt c 0) t)
     unfolding repeatChange isEmpty firstOf
-    repeat-refusal Content.Empty = slot-row i 0 Content.Empty (repeatChange (hostAt c 0) Content.Empty) (fullRefusal 1 (c .slots) ∷ []) some refl
+    repeat-refusal Content.Empty =
+        slot-row i 0 Content.Empty (repeatChange (hostAt c 0) Content.Empty)
+        (fullRefusal 1 (c .slots) ∷ []) some refl
     repeat-refusal (Content.One m) =
         let k = repeatChange (hostAt c 0) (Content.One m) in
         slot-row i 0 (Content.One m) k (fullRefusal 1 (c .slots) ∷ []) some
         (first-only (fullRefusal 1 (c .slots)) ∙ sym (own-full (c .slots) (hostAt c 0) m)
-        ∙ ap (λ (ss : List Slot). stepFull ss (stepOf k)) (sym (keeps (c .slots) i)) ∙ sym (still-passed i 0 k refl))
+        ∙ ap (λ (ss : List Slot). stepFull ss (stepOf k)) (sym (keeps (c .slots) i))
+        ∙ sym (still-passed i 0 k refl))
 
-    repeat-after : (t : Content) → contentAt c i ≡ t → repeated c t ≡ changed c i 0 (repeatChange (hostAt c 0) t)
+    repeat-after : (t : Content) → contentAt c i ≡ t
+        → repeated c t ≡ changed c i 0 (repeatChange (hostAt c 0) t)
     unfolding repeated repeatChange stepped
     repeat-after Content.Empty e = sym (still-changed i refusedSlot)
-    repeat-after (Content.One m) e = rw (keeps (c .slots) i, own-sent (c .settings .n) (c .slots) m (in-reach m e)) (ap (λ (d : Cell). withSlots d (placed (c .slots) m)) (sym (host-keeps c 0)))
+    repeat-after (Content.One m) e =
+        rw (keeps (c .slots) i, own-sent (c .settings .n) (c .slots) m (in-reach m e))
+        (ap (λ (d : Cell). withSlots d (placed (c .slots) m)) (sym (host-keeps c 0)))
 
   -- ---- any event but an advance of all
 
@@ -270,7 +361,8 @@ module _ (c : Cell) (z : Sized c) (o : cellOk c ≡ true) where
   abbrev changes : Event → Change
   changes e = changeOf (c .settings) e (hostAt c (host e)) (content e)
 
-  refusal-is : (e : Event) → isAll e ≡ false → refusalOf c e ≡ changeRefusal c (slotOf e) (host e) (changes e)
+  refusal-is : (e : Event) → isAll e ≡ false
+      → refusalOf c e ≡ changeRefusal c (slotOf e) (host e) (changes e)
   unfolding refusalOf changeOf deliverRefusal loseRefusal repeatRefusal
   refusal-is (AdvanceAll d) p = true-false p
   refusal-is (AdvanceOne h d) p = one-refusal h d
@@ -280,7 +372,8 @@ module _ (c : Cell) (z : Sized c) (o : cellOk c ≡ true) where
   refusal-is (Repeat i) p = repeat-refusal i (contentAt c i)
   refusal-is (Restart h) p = restart-refusal h
 
-  after-is : (e : Event) → isAll e ≡ false → refusalOf c e ≡ done → afterOf c e ≡ changed c (slotOf e) (host e) (changes e)
+  after-is : (e : Event) → isAll e ≡ false → refusalOf c e ≡ done
+      → afterOf c e ≡ changed c (slotOf e) (host e) (changes e)
   unfolding refusalOf afterOf changeOf
   after-is (AdvanceAll d) p q = true-false p
   after-is (AdvanceOne h d) p q = one-after h d q
@@ -300,13 +393,19 @@ module _ (c : Cell) (z : Sized c) (o : cellOk c ≡ true) where
     unfolding refusalOf advanceAllRefusal
     all-refusal = cell-passed _ ∙ first-only (hostsRefusal c d)
 
-    pub all-refused : (a : ℕ) → (a ≡ done → ⊥) → hostsRefusal c d ≡ a → answeredWith a c ≡ eventOf c e
+    pub all-refused : (a : ℕ) → (a ≡ done → ⊥) → hostsRefusal c d ≡ a
+        → answeredWith a c ≡ eventOf c e
     unfolding eventOf
-    all-refused a n q = sym (ap (eventOf c) all-event ∙ ap (λ (k : ℕ). answerWith k c (afterOf c (AdvanceAll d))) (all-refusal ∙ q) ∙ rw (ne-eqb a done n))
+    all-refused a n q =
+        sym (ap (eventOf c) all-event
+        ∙ ap (λ (k : ℕ). answerWith k c (afterOf c (AdvanceAll d))) (all-refusal ∙ q)
+        ∙ rw (ne-eqb a done n))
 
     pub all-done : hostsRefusal c d ≡ done → answeredWith done (advancedAll c d) ≡ eventOf c e
     unfolding eventOf afterOf
-    all-done q = sym (ap (eventOf c) all-event ∙ ap (λ (k : ℕ). answerWith k c (advancedAll c d)) (all-refusal ∙ q))
+    all-done q =
+        sym (ap (eventOf c) all-event
+        ∙ ap (λ (k : ℕ). answerWith k c (advancedAll c d)) (all-refusal ∙ q))
 
 -- ---- any other event: what the code has found of it
 
@@ -323,14 +422,18 @@ module _ {c : Cell} {e : Event} {i h : ℕ} {k : Change} (f : Found c e i h k) w
   is-found = rw (f .change-is, f .host-is, f .slot-is) (refusal-is c (f .sized) (f .ok) e (f .one))
 
   -- refused: the same cell with the number
-  event-refused : (a : ℕ) → (a ≡ done → ⊥) → changeRefusal c i h k ≡ a → answeredWith a c ≡ eventOf c e
+  event-refused : (a : ℕ) → (a ≡ done → ⊥) → changeRefusal c i h k ≡ a
+      → answeredWith a c ≡ eventOf c e
   unfolding eventOf
-  event-refused a n q = sym (ap (λ (x : ℕ). answerWith x c (afterOf c e)) (is-found ∙ q) ∙ rw (ne-eqb a done n))
+  event-refused a n q =
+      sym (ap (λ (x : ℕ). answerWith x c (afterOf c e)) (is-found ∙ q) ∙ rw (ne-eqb a done n))
 
   event-done : changeRefusal c i h k ≡ done → answeredWith done (changed c i h k) ≡ eventOf c e
   unfolding eventOf
   event-done q =
-      sym (ap (λ (x : ℕ). answerWith x c (afterOf c e)) (is-found ∙ q) ∙ rw (f .change-is, f .host-is, f .slot-is) (ap (answeredWith done) (after-is c (f .sized) (f .ok) e (f .one) (is-found ∙ q))))
+      sym (ap (λ (x : ℕ). answerWith x c (afterOf c e)) (is-found ∙ q)
+      ∙ rw (f .change-is, f .host-is, f .slot-is)
+      (ap (answeredWith done) (after-is c (f .sized) (f .ok) e (f .one) (is-found ∙ q))))
 
   pub slot-refused : slotCount ≤ i → answeredWith refusedSlot c ≡ eventOf c e
   unfolding changeRefusal firstOf
@@ -338,7 +441,9 @@ module _ {c : Cell} {e : Event} {i h : ℕ} {k : Change} (f : Found c e i h k) w
 
   pub host-refused : i < slotCount → c .settings .n ≤ h → answeredWith refusedHost c ≡ eventOf c e
   unfolding changeRefusal firstOf
-  host-refused b d = event-refused refusedHost (λ q. absurd (omega arith)) (rw (lt-ltb i slotCount b, le-ltb h (c .settings .n) d))
+  host-refused b d =
+      event-refused refusedHost (λ q. absurd (omega arith))
+      (rw (lt-ltb i slotCount b, le-ltb h (c .settings .n) d))
 
   module _ (b : i < slotCount) (d : h < c .settings .n) where
     numbers-passed : changeRefusal c i h k ≡ firstOf (k .answer ∷ tail c (f .sized) (f .ok) i h k)
@@ -349,9 +454,12 @@ module _ {c : Cell} {e : Event} {i h : ℕ} {k : Change} (f : Found c e i h k) w
     change-refused n = event-refused (k .answer) n (numbers-passed ∙ first-found (k .answer) _ n)
 
     module _ (q : k .answer ≡ done) where
-      pub spread-refused : clocksNear (withHost c h (k .host)) ≡ false → answeredWith refusedSpread c ≡ eventOf c e
+      pub spread-refused : clocksNear (withHost c h (k .host)) ≡ false
+          → answeredWith refusedSpread c ≡ eventOf c e
       unfolding firstOf
-      spread-refused l = event-refused refusedSpread (λ q. absurd (omega arith)) (numbers-passed ∙ first-next (k .answer) (tail c (f .sized) (f .ok) i h k) q ∙ rw l)
+      spread-refused l =
+          event-refused refusedSpread (λ q. absurd (omega arith))
+          (numbers-passed ∙ first-next (k .answer) (tail c (f .sized) (f .ok) i h k) q ∙ rw l)
 
       -- a clock that did not move is near
       pub still : k .host .clock ≡ hostAt c h .clock → clocksNear (withHost c h (k .host)) ≡ true
@@ -359,23 +467,31 @@ module _ {c : Cell} {e : Event} {i h : ℕ} {k : Change} (f : Found c e i h k) w
 
       module _ (near : clocksNear (withHost c h (k .host)) ≡ true) where
         full-is : changeRefusal c i h k ≡ stepFull (slotsAfter c i k) (stepOf k)
-        full-is = numbers-passed ∙ first-next (k .answer) _ q ∙ near-passed c (f .sized) (f .ok) i h k near
+        full-is = numbers-passed ∙ first-next (k .answer) _ q
+            ∙ near-passed c (f .sized) (f .ok) i h k near
 
         abbrev count : ℕ
         count = messagesIn (k .sent) (k .receivers)
 
-        pub full-refused : empties (slotsAfter c i k) < count → answeredWith refusedFull c ≡ eventOf c e
-        full-refused l = event-refused refusedFull (λ q. absurd (omega arith)) (full-is ∙ rw (lt-leb count (empties (slotsAfter c i k)) l))
+        pub full-refused : empties (slotsAfter c i k) < count
+            → answeredWith refusedFull c ≡ eventOf c e
+        full-refused l =
+            event-refused refusedFull (λ q. absurd (omega arith))
+            (full-is ∙ rw (lt-leb count (empties (slotsAfter c i k)) l))
 
         module _ (l : count ≤ empties (slotsAfter c i k)) where
           committed : answeredWith done (changed c i h k) ≡ eventOf c e
           committed = event-done (full-is ∙ rw (le-leb count (empties (slotsAfter c i k)) l))
 
-          pub committed-quiet : k .sent ≡ Sent.Nothing → answeredWith done (withSlots (withHost c h (k .host)) (slotsAfter c i k)) ≡ eventOf c e
+          pub committed-quiet : k .sent ≡ Sent.Nothing
+              → answeredWith done (withSlots (withHost c h (k .host)) (slotsAfter c i k))
+              ≡ eventOf c e
           unfolding stepped sentTo
           committed-quiet q = rw q at committed
 
           pub committed-sent : (m : Message) → k .sent ≡ Sent.One m
-              → answeredWith done (withSlots (withHost c h (k .host)) (placedTo (c .settings .n) (slotsAfter c i k) m (k .receivers))) ≡ eventOf c e
+              → answeredWith done
+              (withSlots (withHost c h (k .host))
+              (placedTo (c .settings .n) (slotsAfter c i k) m (k .receivers))) ≡ eventOf c e
           unfolding stepped sentTo
           committed-sent m q = rw q at committed

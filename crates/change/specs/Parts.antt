@@ -11,14 +11,16 @@ use Rattle.message.specs.Message.{targetOf}
 use Rattle.state.specs.declared.Settings.{Settings}
 use Rattle.host.specs.declared.Host.{Host}
 use Rattle.host.specs.declared.Stepped.{Stepped}
-use Rattle.host.specs.Steps.{refusedWith, quietWith, sendingWith, advanceOf, restartOf, startOf, receiveOf}
+use Rattle.host.specs.Steps.{refusedWith, quietWith, sendingWith, advanceOf, restartOf, startOf}
+use Rattle.host.specs.Steps.{receiveOf}
 use Rattle.slots.specs.declared.Slot.{Slot}
 use Rattle.slots.specs.declared.Content.{Content}
 use Rattle.slots.specs.Slots.{slotCount, emptySlot}
 use Rattle.slots.specs.Parts.{slotAfter}
 use Rattle.cell.specs.declared.Cell.{Cell}
 use Rattle.cell.specs.declared.Event.{Event}
-use Rattle.cell.specs.declared.Event.the-variants.{AdvanceAll, AdvanceOne, Start, Deliver, Lose, Repeat, Restart}
+use Rattle.cell.specs.declared.Event.the-variants.{AdvanceAll, AdvanceOne, Start, Deliver, Lose}
+use Rattle.cell.specs.declared.Event.the-variants.{Repeat, Restart}
 use Rattle.cell.specs.CellLimits.{withHost, clocksNear}
 use Rattle.cell.specs.Events.{hostRefusal, stepFull, stepped}
 use Rattle.change.specs.declared.Change.{Change}
@@ -70,7 +72,14 @@ hostOf (Restart h) t = h
 -- ---- the change
 
 abbrev pub change : Stepped → Bool → Change
-change step frees = record { answer = step .answer; host = step .host; sent = step .sent; receivers = step .receivers; frees = frees }
+change step frees =
+    record {
+      answer = step .answer;
+      host = step .host;
+      sent = step .sent;
+      receivers = step .receivers;
+      frees = frees;
+    }
 
 -- the step in it
 abbrev pub stepOf : Change → Stepped

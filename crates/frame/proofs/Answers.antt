@@ -29,19 +29,28 @@ use Rattle.frame.specs.Parts.{answerOf, partOf}
 -- ---- reading
 
 -- where the frame is whole, what is left is the message's
-pub read-whole : (z : Sizes) (s : List ℕ) → sizesFit z ≡ true → leb 4 (length s) ≡ true → knownKind (toldKind s) ≡ true → eqb (toldLength s) (kindLength (toldKind s)) ≡ true
-    → leb (kindLength (toldKind s)) (length s) ≡ true → readAnswer z s ≡ faultOf z (numbersIn s (toldKind s))
+pub read-whole : (z : Sizes) (s : List ℕ) → sizesFit z ≡ true → leb 4 (length s) ≡ true
+    → knownKind (toldKind s) ≡ true → eqb (toldLength s) (kindLength (toldKind s)) ≡ true
+    → leb (kindLength (toldKind s)) (length s) ≡ true
+    → readAnswer z s ≡ faultOf z (numbersIn s (toldKind s))
 unfolding readAnswer firstOf allOf faultOf
 read-whole z s c l k e r = rw (c, l, k, e, r)
 
 -- ---- writing
 
 -- what the code finds is the answer of the list of refusals
-answer-found : (z : Sizes) (ks bytes : List ℕ) (total room : ℕ) → (firstOf ks ≡ 0 → length bytes ≡ total)
-    → answerOf z (firstOf ks) total room ≡ firstOf (unless (sizesFit z) refusedCell ∷ (ks ++ (unless (leb (length bytes) room) refusedRoom ∷ [])))
+answer-found : (z : Sizes) (ks bytes : List ℕ) (total room : ℕ)
+    → (firstOf ks ≡ 0 → length bytes ≡ total)
+    → answerOf z (firstOf ks) total room
+    ≡ firstOf
+    (unless (sizesFit z) refusedCell ∷ (ks ++ (unless (leb (length bytes) room) refusedRoom ∷ [])))
 unfolding answerOf
 answer-found z ks bytes total room h =
-    first-same _ _ _ (λ _. first-same (firstOf ks) _ _ (λ e. ap (λ (l : ℕ). firstOf (unless (leb l room) refusedRoom ∷ [])) (sym (h e))) ∙ sym (first-append ks _))
+    first-same _ _ _
+    (λ _.
+    first-same (firstOf ks) _ _
+    (λ e. ap (λ (l : ℕ). firstOf (unless (leb l room) refusedRoom ∷ [])) (sym (h e)))
+    ∙ sym (first-append ks _))
 
 -- an answer of 0: the cell fits, nothing is refused in the message, and there is room
 pub record Free (z : Sizes) (bad total room : ℕ) : Type 0 where
@@ -49,7 +58,8 @@ pub record Free (z : Sizes) (bad total room : ℕ) : Type 0 where
   pub message : bad ≡ 0
   pub fits : total ≤ room
 
-pub answer-free : (z : Sizes) (bad total room : ℕ) → answerOf z bad total room ≡ 0 → Free z bad total room
+pub answer-free : (z : Sizes) (bad total room : ℕ) → answerOf z bad total room ≡ 0
+    → Free z bad total room
 unfolding answerOf
 answer-free z bad total room e =
     let p1 = unless-passed (sizesFit z) refusedCell _ refl e in
@@ -60,14 +70,17 @@ answer-free z bad total room e =
 pub cell-most : (z : Sizes) → sizesFit z ≡ true → z .n ≤ mostHosts
 cell-most z e = leb-true (z .n) mostHosts (both (leb 1 (z .n)) (leb (z .n) mostHosts) e .1)
 
-pub write-found : (z : Sizes) (m : Message) (room : ℕ) → answerOf z (faultOf z (numbersOf m)) (kindLength (numbersOf m .kind)) room ≡ writeAnswer z m room
+pub write-found : (z : Sizes) (m : Message) (room : ℕ)
+    → answerOf z (faultOf z (numbersOf m)) (kindLength (numbersOf m .kind)) room
+    ≡ writeAnswer z m room
 unfolding writeAnswer frameOf faultOf allOf
 write-found z m room =
     let f = numbersOf m in
     answer-found z _ (bytesOf f) (kindLength (f .kind)) room (λ e. bytes-length f)
 
 -- where the cell fits, nothing is refused in the message and its frame has room, it is written
-pub write-free : (z : Sizes) (m : Message) (room : ℕ) → sizesFit z ≡ true → faultOf z (numbersOf m) ≡ 0 → length (frameOf m) ≤ room → writeAnswer z m room ≡ 0
+pub write-free : (z : Sizes) (m : Message) (room : ℕ) → sizesFit z ≡ true
+    → faultOf z (numbersOf m) ≡ 0 → length (frameOf m) ≤ room → writeAnswer z m room ≡ 0
 unfolding answerOf firstOf frameOf
 write-free z m room c e r =
     let f = numbersOf m in
@@ -76,30 +89,39 @@ write-free z m room c e r =
 
 -- ---- frames to a set
 
-pub frames-length : (f : Numbers) (hs : List ℕ) → length (framesIn f hs) ≡ length hs * kindLength (f .kind)
+pub frames-length : (f : Numbers) (hs : List ℕ)
+    → length (framesIn f hs) ≡ length hs * kindLength (f .kind)
 unfolding framesIn
 frames-length f [] = sym (zero-mul (kindLength (f .kind)))
 frames-length f (h ∷ hs) =
     let e : suc (length hs) ≡ 1 + length hs = omega arith in
     rw (length-append, bytes-length (withTarget f h), frames-length f hs, e, add-mul, one-mul)
 
-pub frames-step : (f : Numbers) (set h n : ℕ) → h < n → framesIn f (membersFrom set h (n - h)) ≡ partOf (isIn set h) (withTarget f h) ++ framesIn f (membersFrom set (h + 1) (n - (h + 1)))
+pub frames-step : (f : Numbers) (set h n : ℕ) → h < n
+    → framesIn f (membersFrom set h (n - h)) ≡ partOf (isIn set h) (withTarget f h)
+    ++ framesIn f (membersFrom set (h + 1) (n - (h + 1)))
 unfolding framesIn
-frames-step f set h n k = rw (members-step set h n k) (go (isIn set h) (membersFrom set (h + 1) (n - (h + 1))))
+frames-step f set h n k =
+    rw (members-step set h n k) (go (isIn set h) (membersFrom set (h + 1) (n - (h + 1))))
   where
-    go : (b : Bool) (hs : List ℕ) → framesIn f (cond b (h ∷ hs) hs) ≡ cond b (bytesOf (withTarget f h)) [] ++ framesIn f hs
+    go : (b : Bool) (hs : List ℕ)
+        → framesIn f (cond b (h ∷ hs) hs) ≡ cond b (bytesOf (withTarget f h)) [] ++ framesIn f hs
     go true hs = refl
     go false hs = refl
 
 -- as many frames as the set has hosts
-pub length-to : (z : Sizes) (m : Message) (set : ℕ) → faultTo z (numbersOf m) set ≡ 0 → length (framesOf z m set) ≡ ones set * kindLength (numbersOf m .kind)
+pub length-to : (z : Sizes) (m : Message) (set : ℕ) → faultTo z (numbersOf m) set ≡ 0
+    → length (framesOf z m set) ≡ ones set * kindLength (numbersOf m .kind)
 unfolding framesOf
 length-to z m set e =
     let f = numbersOf m in
     let b : set < 2 ^ z .n = ltb-true set (2 ^ z .n) (passed-to z f set e .target) in
-    frames-length f (members (z .n) set) ∙ ap (λ (k : ℕ). k * kindLength (f .kind)) (members-length (z .n) set b)
+    frames-length f (members (z .n) set)
+    ∙ ap (λ (k : ℕ). k * kindLength (f .kind)) (members-length (z .n) set b)
 
-pub found-to : (z : Sizes) (m : Message) (set room : ℕ) → answerOf z (faultTo z (numbersOf m) set) (ones set * kindLength (numbersOf m .kind)) room ≡ answerTo z m set room
+pub found-to : (z : Sizes) (m : Message) (set room : ℕ)
+    → answerOf z (faultTo z (numbersOf m) set) (ones set * kindLength (numbersOf m .kind)) room
+    ≡ answerTo z m set room
 unfolding answerTo faultTo allOf
 found-to z m set room =
     let f = numbersOf m in

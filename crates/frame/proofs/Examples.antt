@@ -12,7 +12,9 @@ use Rattle.frame.specs.Writing.{frameOf, writeAnswer, framesIn, framesOf
 use Rattle.frame.specs.Examples.{Examples}
 
 pub examples : Examples
-unfolding firstOf allOf le numberAt total numbersAt packed membersFrom lastTick lastEnd knownKind isResponse numbersOf messageOf partyFits faultOf partyFitsTo moreOf kindLength bytesOf valueIn numbersIn readAnswer readOf frameOf writeAnswer framesIn framesOf answerTo
+unfolding firstOf allOf le numberAt total numbersAt packed membersFrom lastTick lastEnd knownKind
+    isResponse numbersOf messageOf partyFits faultOf partyFitsTo moreOf kindLength bytesOf valueIn
+    numbersIn readAnswer readOf frameOf writeAnswer framesIn framesOf answerTo
 examples = record {
   request-written = refl;
   zero-read = refl;

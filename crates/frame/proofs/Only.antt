@@ -31,11 +31,14 @@ pub record Accepted (z : Sizes) (s : List ℕ) (m : Message) (l : ℕ) : Type 0 
   pub message : messageOf (numbersIn s (toldKind s)) ≡ m
   pub long : kindLength (toldKind s) ≡ l
 
-read-accepted : (z : Sizes) (s : List ℕ) (m : Message) (l : ℕ) → readOf z s ≡ Whole m l → Accepted z s m l
+read-accepted : (z : Sizes) (s : List ℕ) (m : Message) (l : ℕ) → readOf z s ≡ Whole m l
+    → Accepted z s m l
 unfolding readOf
 read-accepted z s m l = go (readAnswer z s) (eqb (readAnswer z s) 0) refl refl
   where
-    go : (a : ℕ) (e : Bool) → readAnswer z s ≡ a → eqb a 0 ≡ e → cond e (Whole (messageOf (numbersIn s (toldKind s))) (kindLength (toldKind s))) (Refused a) ≡ Whole m l → Accepted z s m l
+    go : (a : ℕ) (e : Bool) → readAnswer z s ≡ a → eqb a 0 ≡ e
+        → cond e (Whole (messageOf (numbersIn s (toldKind s))) (kindLength (toldKind s)))
+        (Refused a) ≡ Whole m l → Accepted z s m l
     go a true p q r = record { passed = p ∙ eqb-true a 0 q; message = cc; long = cc }
     go a false p q r = let absent : _≡_ {A = ℕ} 0 1 = cc in absurd (omega arith)
 
@@ -53,44 +56,55 @@ tested z s e =
     let p1 = unless-passed (sizesFit z) refusedCell _ refl e in
     let p2 = unless-passed (leb 4 (length s)) refusedCut _ refl (p1 .1) in
     let p3 = unless-passed (knownKind (toldKind s)) refusedKind _ refl (p2 .1) in
-    let p4 = unless-passed (eqb (toldLength s) (kindLength (toldKind s))) refusedLength _ refl (p3 .1) in
+    let p4 =
+    unless-passed (eqb (toldLength s) (kindLength (toldKind s))) refusedLength _ refl (p3 .1) in
     let p5 = unless-passed (leb (kindLength (toldKind s)) (length s)) refusedCut _ refl (p4 .1) in
     record { cell = p1 .0; fore = p2 .0; kind = p3 .0; told = p4 .0; room = p5 .0 }
 
 -- bytes that are read as a message begin with the frame of that message, byte for byte
-pub read-only : (s : List ℕ) → ((i : ℕ) → getD s i 0 < 256) → (z : Sizes) (m : Message) (l : ℕ) → readOf z s ≡ Whole m l → take l s ≡ frameOf m
+pub read-only : (s : List ℕ) → ((i : ℕ) → getD s i 0 < 256) → (z : Sizes) (m : Message) (l : ℕ)
+    → readOf z s ≡ Whole m l → take l s ≡ frameOf m
 unfolding frameOf
 read-only s bytes z m l q =
     let p = read-accepted z s m l q in
     let t = tested z s (p .passed) in
     let k = toldKind s in
-    let back = bytes-back s k bytes (t .kind) (leb-true (kindLength k) (length s) (t .room)) refl (eqb-true (toldLength s) (kindLength k) (t .told)) in
+    let back =
+    bytes-back s k bytes (t .kind) (leb-true (kindLength k) (length s) (t .room)) refl
+    (eqb-true (toldLength s) (kindLength k) (t .told)) in
     rw (← p .message, ← p .long, message-back s k (t .kind)) (sym back)
 
 -- what is read can be written, and the length that reading gave is that of the message's frame
-pub read-write : (z : Sizes) (s : List ℕ) (m : Message) (l : ℕ) → readOf z s ≡ Whole m l → (l ≡ length (frameOf m)) × (writeAnswer z m l ≡ 0)
+pub read-write : (z : Sizes) (s : List ℕ) (m : Message) (l : ℕ) → readOf z s ≡ Whole m l
+    → (l ≡ length (frameOf m)) × (writeAnswer z m l ≡ 0)
 unfolding numbersIn
 read-write z s m l q =
     let p = read-accepted z s m l q in
     let t = tested z s (p .passed) in
     let k = toldKind s in
     let f : numbersOf m ≡ numbersIn s k = rw (← p .message) (message-back s k (t .kind)) in
-    let e : l ≡ length (frameOf m) = sym (p .long) ∙ sym (ap (λ (g : Numbers). kindLength (g .kind)) f) ∙ sym (frame-length m) in
-    let bad : faultOf z (numbersOf m) ≡ 0 = rw f (sym (read-whole z s (t .cell) (t .fore) (t .kind) (t .told) (t .room)) ∙ p .passed) in
+    let e : l ≡ length (frameOf m) = sym (p .long)
+    ∙ sym (ap (λ (g : Numbers). kindLength (g .kind)) f) ∙ sym (frame-length m) in
+    let bad : faultOf z (numbersOf m) ≡ 0 =
+    rw f (sym (read-whole z s (t .cell) (t .fore) (t .kind) (t .told) (t .room)) ∙ p .passed) in
     (e, write-free z m l (t .cell) bad (omega (arith, e)))
 
 -- two cells that both read some bytes read the same message from them
-pub cells-alike : (z z′ : Sizes) (s : List ℕ) (m m′ : Message) (l l′ : ℕ) → readOf z s ≡ Whole m l → readOf z′ s ≡ Whole m′ l′ → (m ≡ m′) × (l ≡ l′)
+pub cells-alike : (z z′ : Sizes) (s : List ℕ) (m m′ : Message) (l l′ : ℕ) → readOf z s ≡ Whole m l
+    → readOf z′ s ≡ Whole m′ l′ → (m ≡ m′) × (l ≡ l′)
 cells-alike z z′ s m m′ l l′ q q′ =
     let p = read-accepted z s m l q in
     let p′ = read-accepted z′ s m′ l′ q′ in
     (sym (p .message) ∙ p′ .message, sym (p .long) ∙ p′ .long)
 
 -- two messages whose numbers fit their fields never share a frame
-pub frames-apart : (m m′ : Message) → Fit (numbersOf m) → Fit (numbersOf m′) → frameOf m ≡ frameOf m′ → m ≡ m′
+pub frames-apart : (m m′ : Message) → Fit (numbersOf m) → Fit (numbersOf m′)
+    → frameOf m ≡ frameOf m′ → m ≡ m′
 frames-apart m m′ h h′ e =
     let s = frameOf m ++ [] in
     let same : frameOf m′ ++ [] ≡ s = ap (λ (l : List ℕ). l ++ []) (sym e) in
-    let k : numbersOf m .kind ≡ numbersOf m′ .kind = sym (kind-back m []) ∙ sym (ap toldKind same) ∙ kind-back m′ [] in
-    let f : numbersOf m ≡ numbersOf m′ = sym (frame-back m [] h) ∙ ap (numbersIn s) k ∙ sym (ap (λ (l : List ℕ). numbersIn l (numbersOf m′ .kind)) same) ∙ frame-back m′ [] h′ in
+    let k : numbersOf m .kind ≡ numbersOf m′ .kind = sym (kind-back m []) ∙ sym (ap toldKind same)
+    ∙ kind-back m′ [] in
+    let f : numbersOf m ≡ numbersOf m′ = sym (frame-back m [] h) ∙ ap (numbersIn s) k
+    ∙ sym (ap (λ (l : List ℕ). numbersIn l (numbersOf m′ .kind)) same) ∙ frame-back m′ [] h′ in
     sym (message-numbers m) ∙ ap messageOf f ∙ message-numbers m′

@@ -16,7 +16,9 @@ use Rattle.wire.proofs.Laws.{number-within}
 use Rattle.message.specs.declared.Sizes.{Sizes}
 use Rattle.message.specs.declared.Numbers.{Numbers}
 use Rattle.message.specs.declared.Message.{Message}
-use Rattle.message.specs.declared.Message.the-variants.{PrepareRequest, PrepareResponseEmpty, PrepareResponseLease, ProposeRequest, ProposeResponse, Learn}
+use Rattle.message.specs.declared.Message.the-variants.{PrepareRequest, PrepareResponseEmpty}
+use Rattle.message.specs.declared.Message.the-variants.{PrepareResponseLease, ProposeRequest}
+use Rattle.message.specs.declared.Message.the-variants.{ProposeResponse, Learn}
 use Rattle.message.specs.Message.{lastTick, lastEnd, knownKind, numbersOf}
 use Rattle.message.specs.Faults.{sizesFit, faultOf}
 use Rattle.message.proofs.Laws.{fault-passed, kind-known, message-numbers}
@@ -34,15 +36,18 @@ pub read-number : (z : Sizes) (s : List ℕ) → numberOf (readOf z s) ≡ readA
 unfolding readOf
 read-number z s =
     let a = readAnswer z s in
-    by-test (λ r. numberOf r ≡ a) (eqb a 0) (Whole _ _) (Refused a) (λ e. sym (eqb-true a 0 e)) (λ _. refl)
+    by-test (λ r. numberOf r ≡ a) (eqb a 0) (Whole _ _) (Refused a) (λ e. sym (eqb-true a 0 e))
+    (λ _. refl)
 
 -- its length is that of the kind's frames, and 0 where it is refused
-pub read-length : (z : Sizes) (s : List ℕ) → lengthOf (readOf z s) ≡ cond (eqb (readAnswer z s) 0) (kindLength (toldKind s)) 0
+pub read-length : (z : Sizes) (s : List ℕ)
+    → lengthOf (readOf z s) ≡ cond (eqb (readAnswer z s) 0) (kindLength (toldKind s)) 0
 unfolding readOf
 read-length z s =
     let a = readAnswer z s in
     let l = kindLength (toldKind s) in
-    by-test (λ r. lengthOf r ≡ cond (eqb a 0) l 0) (eqb a 0) (Whole _ l) (Refused a) (λ e. rw e) (λ e. rw e)
+    by-test (λ r. lengthOf r ≡ cond (eqb a 0) l 0) (eqb a 0) (Whole _ l) (Refused a) (λ e. rw e)
+    (λ e. rw e)
 
 -- ---- written, then read
 
@@ -74,7 +79,8 @@ kind-back (ProposeRequest m) t = refl
 kind-back (ProposeResponse h) t = refl
 kind-back (Learn m) t = refl
 
-length-back : (m : Message) (t : List ℕ) → toldLength (frameOf m ++ t) ≡ kindLength (numbersOf m .kind)
+length-back : (m : Message) (t : List ℕ)
+    → toldLength (frameOf m ++ t) ≡ kindLength (numbersOf m .kind)
 unfolding frameOf bytesOf numbersOf kindLength moreOf total packed le numberAt
 length-back (PrepareRequest h) t = refl
 length-back (PrepareResponseEmpty h) t = refl
@@ -87,25 +93,32 @@ pub frame-length : (m : Message) → length (frameOf m) ≡ kindLength (numbersO
 unfolding frameOf
 frame-length m = bytes-length (numbersOf m)
 
-pub frame-back : (m : Message) (t : List ℕ) → Fit (numbersOf m) → numbersIn (frameOf m ++ t) (numbersOf m .kind) ≡ numbersOf m
+pub frame-back : (m : Message) (t : List ℕ) → Fit (numbersOf m)
+    → numbersIn (frameOf m ++ t) (numbersOf m .kind) ≡ numbersOf m
 unfolding frameOf
 frame-back m t h = numbers-back m t h
 
 -- a message in which nothing is refused is read from its frame, whatever follows
-pub read-frame : (z : Sizes) (m : Message) (t : List ℕ) → sizesFit z ≡ true → faultOf z (numbersOf m) ≡ 0 → readOf z (frameOf m ++ t) ≡ Whole m (length (frameOf m))
+pub read-frame : (z : Sizes) (m : Message) (t : List ℕ) → sizesFit z ≡ true
+    → faultOf z (numbersOf m) ≡ 0 → readOf z (frameOf m ++ t) ≡ Whole m (length (frameOf m))
 unfolding readOf
 read-frame z m t c e =
     let s = frameOf m ++ t in
     let len = kindLength (numbersOf m .kind) in
     let k : headLength ≤ len = length-least (numbersOf m .kind) in
-    let l : length s ≡ len + length t = length-append (frameOf m) t ∙ ap (λ (x : ℕ). x + length t) (frame-length m) in
+    let l : length s ≡ len + length t = length-append (frameOf m) t
+    ∙ ap (λ (x : ℕ). x + length t) (frame-length m) in
     let a = kind-back m t in
-    let back : numbersIn s (numbersOf m .kind) ≡ numbersOf m = frame-back m t (checked-fit z (numbersOf m) c e) in
-    let w = read-whole z s c (le-leb 4 (length s) (omega arith)) (rw a (kind-known m)) (rw (a, length-back m t) (eq-eqb len len refl)) (rw a (le-leb len (length s) (omega arith))) in
+    let back : numbersIn s (numbersOf m .kind) ≡ numbersOf m =
+    frame-back m t (checked-fit z (numbersOf m) c e) in
+    let w =
+    read-whole z s c (le-leb 4 (length s) (omega arith)) (rw a (kind-known m))
+    (rw (a, length-back m t) (eq-eqb len len refl)) (rw a (le-leb len (length s) (omega arith))) in
     rw (w, a, back, e, message-numbers m, frame-length m)
 
 -- where writing answers 0, reading what it left gives the message and the length that writing gave
-pub write-read : (z : Sizes) (m : Message) (out : List ℕ) → writeAnswer z m (length out) ≡ 0 → readOf z (afterWrite z m out) ≡ Whole m (writtenOf z m (length out) .len)
+pub write-read : (z : Sizes) (m : Message) (out : List ℕ) → writeAnswer z m (length out) ≡ 0
+    → readOf z (afterWrite z m out) ≡ Whole m (writtenOf z m (length out) .len)
 unfolding afterWrite writtenOf
 write-read z m out q =
     let p = answer-free z _ _ (length out) (write-found z m (length out) ∙ q) in
@@ -114,7 +127,8 @@ write-read z m out q =
 -- ---- what follows is not looked at
 
 module _ (z : Sizes) (s t : List ℕ) where
-  whole-rest : leb 4 (length s) ≡ true → sizesFit z ≡ true → (readAnswer z s ≡ 2 → ⊥) → readOf z (s ++ t) ≡ readOf z s
+  whole-rest : leb 4 (length s) ≡ true → sizesFit z ≡ true → (readAnswer z s ≡ 2 → ⊥)
+      → readOf z (s ++ t) ≡ readOf z s
   unfolding readOf readAnswer firstOf allOf
   whole-rest four c h =
       kinds (knownKind (toldKind s)) refl
@@ -131,15 +145,19 @@ module _ (z : Sizes) (s t : List ℕ) where
       told-length : toldLength (s ++ t) ≡ toldLength s
       told-length = number-within s t 0 2 (omega (arith, leb-true 4 (length s) four))
 
-      rooms : knownKind (toldKind s) ≡ true → eqb (toldLength s) (kindLength (toldKind s)) ≡ true → (r : Bool) → leb (kindLength (toldKind s)) (length s) ≡ r → readOf z (s ++ t) ≡ readOf z s
+      rooms : knownKind (toldKind s) ≡ true → eqb (toldLength s) (kindLength (toldKind s)) ≡ true
+          → (r : Bool) → leb (kindLength (toldKind s)) (length s) ≡ r
+          → readOf z (s ++ t) ≡ readOf z s
       rooms k e true r =
           let fits = leb-true (kindLength (toldKind s)) (length s) r in
-          let r′ : leb (kindLength (toldKind s)) (length (s ++ t)) ≡ true = le-leb (kindLength (toldKind s)) (length (s ++ t)) (omega (arith, long, fits)) in
+          let r′ : leb (kindLength (toldKind s)) (length (s ++ t)) ≡ true =
+          le-leb (kindLength (toldKind s)) (length (s ++ t)) (omega (arith, long, fits)) in
           let same = numbers-whole s t (toldKind s) fits in
           rw (c, four, four′, kind, told-length, k, e, r, r′, same)
       rooms k e false r = absurd (h (rw (c, four, k, e, r)))
 
-      lengths : knownKind (toldKind s) ≡ true → (e : Bool) → eqb (toldLength s) (kindLength (toldKind s)) ≡ e → readOf z (s ++ t) ≡ readOf z s
+      lengths : knownKind (toldKind s) ≡ true → (e : Bool)
+          → eqb (toldLength s) (kindLength (toldKind s)) ≡ e → readOf z (s ++ t) ≡ readOf z s
       lengths k true e = rooms k e (leb (kindLength (toldKind s)) (length s)) refl
       lengths k false e = rw (c, four, four′, kind, told-length, k, e)
 

@@ -15,13 +15,15 @@ use Rattle.frame_c.specs.Parts.{kindAnswer}
 
 first-two : (c b : Bool) (ks : List ℕ) →
     let a = firstOf (unless c refusedCell ∷ unless b refusedKind ∷ []) in
-    firstOf (unless c refusedCell ∷ unless b refusedKind ∷ ks) ≡ cond (eqb a 0) (firstOf (unless c refusedCell ∷ ks)) a
+    firstOf (unless c refusedCell ∷ unless b refusedKind ∷ ks)
+    ≡ cond (eqb a 0) (firstOf (unless c refusedCell ∷ ks)) a
 unfolding firstOf
 first-two true true ks = refl
 first-two true false ks = refl
 first-two false b ks = refl
 
 pub kind-found : (z : Sizes) (k : ℕ) (message : List (Refusal Field)) (bytes : List ℕ) (room : ℕ)
-    → answerBy (writeRefusals z (kindRefusal k ∷ message) bytes room) ≡ cond (eqb (kindAnswer z k) 0) (answerBy (writeRefusals z message bytes room)) (kindAnswer z k)
+    → answerBy (writeRefusals z (kindRefusal k ∷ message) bytes room)
+    ≡ cond (eqb (kindAnswer z k) 0) (answerBy (writeRefusals z message bytes room)) (kindAnswer z k)
 unfolding allOf kindAnswer
 kind-found z k message bytes room = first-two (sizesFit z) (knownKind k) _

@@ -6,7 +6,8 @@ use Rattle.base.specs.Refusals.{done}
 use Rattle.base.proofs.Tests.{by-test}
 use Rattle.host.specs.declared.Host.{Host}
 use Rattle.host.specs.declared.Stepped.{Stepped}
-use Rattle.host.specs.Steps.{refusedWith, stepWith, startRefusal, startOf, receiveRefusal, receiveOf}
+use Rattle.host.specs.Steps.{refusedWith, stepWith, startRefusal, startOf, receiveRefusal}
+use Rattle.host.specs.Steps.{receiveOf}
 use Rattle.host.specs.Claims.{Stays, Claims}
 use Rattle.host.proofs.Writable.{writable-each}
 use Rattle.host.proofs.Refusals.{already-empty, already-lease, already-vote}
@@ -16,7 +17,9 @@ use Rattle.host.proofs.Majority.{majority-names}
 
 -- a refused step hands back the host
 stays-with : (k : ℕ) (h : Host) (step : Stepped) → Stays h step → Stays h (stepWith k h step)
-stays-with k h step p = by-test (Stays h) (eqb k done) step (refusedWith k h) (λ _. p) (λ _. record { number = refl; clock = refl; wait = refl })
+stays-with k h step p =
+    by-test (Stays h) (eqb k done) step (refusedWith k h) (λ _. p)
+    (λ _. record { number = refl; clock = refl; wait = refl })
 
 pub claims : Claims
 unfolding startOf receiveOf

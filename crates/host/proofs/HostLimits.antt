@@ -28,18 +28,29 @@ unfolding hostOk All
 host-in s h e =
     let p = all-of-in _ e in
     let q = p .1 .1 in
-    record { settings = p .0; number = ltb-true _ _ (p .1 .0); clock = leb-true _ _ (q .0); wait = leb-true _ _ (q .1 .0); state = q .1 .1 .0 }
+    record {
+      settings = p .0;
+      number = ltb-true _ _ (p .1 .0);
+      clock = leb-true _ _ (q .0);
+      wait = leb-true _ _ (q .1 .0);
+      state = q .1 .1 .0;
+    }
 
 pub out-host : (s : Settings) (h : Host) → HostIn s h → hostOk s h ≡ true
 unfolding hostOk All
-out-host s h i = out-all-of _ (i .settings, (lt-ltb _ _ (i .number), (le-leb _ _ (i .clock), (le-leb _ _ (i .wait), (i .state, tt)))))
+out-host s h i =
+    out-all-of _ (
+      i .settings,
+      (lt-ltb _ _ (i .number), (le-leb _ _ (i .clock), (le-leb _ _ (i .wait), (i .state, tt)))),
+    )
 
 -- in a message in which nothing is refused, hosts are below 16
 pub record Small (f : Numbers) : Type 0 where
   pub sender : f .sender < 16
   pub host : f .ballot .host < 16
 
-pub small : (s : Settings) (h : Host) → hostOk s h ≡ true → (f : Numbers) → faultOf (sizesOf s) f ≡ 0 → Small f
+pub small : (s : Settings) (h : Host) → hostOk s h ≡ true → (f : Numbers)
+    → faultOf (sizesOf s) f ≡ 0 → Small f
 small s h e f q =
     let few = settings-in s (host-in s h e .settings) .few in
     let p = fault-passed (sizesOf s) f q in

@@ -11,25 +11,34 @@ use Rattle.message.specs.declared.LeaseResponse.{LeaseResponse}
 use Rattle.message.specs.declared.Proposal.{Proposal}
 use Rattle.message.specs.declared.LearnedLease.{LearnedLease}
 use Rattle.message.specs.declared.Message.{Message}
-use Rattle.message.specs.declared.Message.the-variants.{PrepareRequest, PrepareResponseEmpty, PrepareResponseLease, ProposeRequest, ProposeResponse, Learn}
+use Rattle.message.specs.declared.Message.the-variants.{PrepareRequest, PrepareResponseEmpty}
+use Rattle.message.specs.declared.Message.the-variants.{PrepareResponseLease, ProposeRequest}
+use Rattle.message.specs.declared.Message.the-variants.{ProposeResponse, Learn}
 use Rattle.message.specs.Message.{isSame}
 use Rattle.rules.specs.declared.Accepted.{Accepted}
 use Rattle.rules.specs.declared.Promised.{Promised}
 use Rattle.rules.specs.declared.Holder.{Holder}
-use Rattle.rules.specs.Rules.{isWaiting, mayPromise, countsReply, hasEnded, actsOn, mayAccept, afterAccept, isNamable, namedBy}
+use Rattle.rules.specs.Rules.{isWaiting, mayPromise, countsReply, hasEnded, actsOn, mayAccept}
+use Rattle.rules.specs.Rules.{afterAccept, isNamable, namedBy}
 use Rattle.state.specs.declared.Settings.{Settings}
 use Rattle.state.specs.declared.Asking.{Asking}
 use Rattle.state.specs.declared.Proposing.{Proposing}
 use Rattle.state.specs.declared.Round.{Round}
 use Rattle.host.specs.declared.Host.{Host}
 use Rattle.host.specs.declared.Stepped.{Stepped}
-use Rattle.host.specs.Steps.{quietWith, sendingWith, withRound, withVote, withNamed, headFrom, onStart, responseWith, onPrepareRequest, askingAfter, proposedValue, onMajority, onCountedReply, onReply, onPrepareResponse, leaseOf, onProposeRequest, proposingAfter, holderOf, onNaming, onChosen, onCountedVote, onVote, onProposeResponse, learnedHolder, onLearn, onMessage, onDelivery}
+use Rattle.host.specs.Steps.{quietWith, sendingWith, withRound, withVote, withNamed, headFrom}
+use Rattle.host.specs.Steps.{onStart, responseWith, onPrepareRequest, askingAfter}
+use Rattle.host.specs.Steps.{proposedValue, onMajority, onCountedReply, onReply}
+use Rattle.host.specs.Steps.{onPrepareResponse, leaseOf, onProposeRequest, proposingAfter}
+use Rattle.host.specs.Steps.{holderOf, onNaming, onChosen, onCountedVote, onVote}
+use Rattle.host.specs.Steps.{onProposeResponse, learnedHolder, onLearn, onMessage, onDelivery}
 use Rattle.host.specs.Claims.{Stays, namingHost}
 
 -- the message is a reply with this head that tells of this lease, or of none
 pub data Reply : Message → Head → Accepted → Type 0 where
   empty : (m : Head) → Reply (PrepareResponseEmpty m) m Accepted.Nothing
-  lease : (m : LeaseResponse) → Reply (PrepareResponseLease m) (m .head) (Accepted.One (m .accepted))
+  lease : (m : LeaseResponse)
+      → Reply (PrepareResponseLease m) (m .head) (Accepted.One (m .accepted))
 
 -- what a host is handed: a start for so many ticks, or a message
 pub data Cause : Type 0 where
@@ -48,10 +57,22 @@ module _ (s : Settings) (h : Host) where
 
   -- the round of a host that has a majority of replies to a, and what it sends to all
   abbrev pub proposes : Asking → Proposing
-  proposes a = record { ballot = a .ballot; owner = proposedValue s h a .owner; end = proposedValue s h a .end; replied = 0 }
+  proposes a =
+      record {
+        ballot = a .ballot;
+        owner = proposedValue s h a .owner;
+        end = proposedValue s h a .end;
+        replied = 0;
+      }
 
   abbrev pub proposal : Asking → Message
-  proposal a = ProposeRequest (record { head = headFrom h (a .ballot); owner = proposedValue s h a .owner; end = proposedValue s h a .end })
+  proposal a =
+      ProposeRequest
+      (record {
+        head = headFrom h (a .ballot);
+        owner = proposedValue s h a .owner;
+        end = proposedValue s h a .end;
+      })
 
 -- Known is what is known of that which the host is handed
 module _ (s : Settings) (h : Host) (Known : Cause → Type 0) where
@@ -79,28 +100,48 @@ module _ (s : Settings) (h : Host) (Known : Cause → Type 0) where
     nothing : Outcome (quietWith h)
     begun : (d : ℕ) → Known (begins d) → Outcome (onStart s h d)
     promised :
-        (m : Head) → Known (gets (PrepareRequest m)) → isWaiting (h .clock) (h .wait) ≡ false → mayPromise (h .state .promised) (m .ballot) ≡ true →
-        Outcome (sendingWith (withVote h (Promised.To (m .ballot)) (h .state .accepted)) (responseWith (headFrom h (m .ballot)) (h .state .accepted)) (singleOf (m .ballot .host)))
+        (m : Head) → Known (gets (PrepareRequest m)) → isWaiting (h .clock) (h .wait) ≡ false
+        → mayPromise (h .state .promised) (m .ballot) ≡ true →
+        Outcome
+        (sendingWith (withVote h (Promised.To (m .ballot)) (h .state .accepted))
+        (responseWith (headFrom h (m .ballot)) (h .state .accepted)) (singleOf (m .ballot .host)))
     heard :
-        (a : Asking) (d : Head) (reply : Accepted) → Heard a d reply → actsOn (s .n) (a .replied) (askingAfter a (d .sender) reply .replied) ≡ false →
+        (a : Asking) (d : Head) (reply : Accepted) → Heard a d reply
+        → actsOn (s .n) (a .replied) (askingAfter a (d .sender) reply .replied) ≡ false →
         Outcome (quietWith (withRound h (Round.Asking (askingAfter a (d .sender) reply))))
     proposed :
-        (a : Asking) (d : Head) (reply : Accepted) → Heard a d reply → actsOn (s .n) (a .replied) (askingAfter a (d .sender) reply .replied) ≡ true →
-        Outcome (sendingWith (withRound h (Round.Proposing (proposes s h (askingAfter a (d .sender) reply)))) (proposal s h (askingAfter a (d .sender) reply)) (everyoneOf (s .n)))
+        (a : Asking) (d : Head) (reply : Accepted) → Heard a d reply
+        → actsOn (s .n) (a .replied) (askingAfter a (d .sender) reply .replied) ≡ true →
+        Outcome
+        (sendingWith
+        (withRound h (Round.Proposing (proposes s h (askingAfter a (d .sender) reply))))
+        (proposal s h (askingAfter a (d .sender) reply)) (everyoneOf (s .n)))
     gaveUp : Outcome (quietWith (withRound h Round.Idle))
     accepted :
-        (m : Proposal) → Known (gets (ProposeRequest m)) → isWaiting (h .clock) (h .wait) ≡ false → mayAccept (h .state .promised) (h .clock) (leaseOf m) ≡ true →
-        Outcome (sendingWith (withVote h (afterAccept (leaseOf m) .promised) (afterAccept (leaseOf m) .accepted)) (ProposeResponse (headFrom h (m .head .ballot))) (singleOf (m .head .ballot .host)))
+        (m : Proposal) → Known (gets (ProposeRequest m)) → isWaiting (h .clock) (h .wait) ≡ false
+        → mayAccept (h .state .promised) (h .clock) (leaseOf m) ≡ true →
+        Outcome
+        (sendingWith
+        (withVote h (afterAccept (leaseOf m) .promised) (afterAccept (leaseOf m) .accepted))
+        (ProposeResponse (headFrom h (m .head .ballot))) (singleOf (m .head .ballot .host)))
     countedVote :
-        (p : Proposing) (d : Head) → Voted p d → actsOn (s .n) (p .replied) (proposingAfter p (d .sender) .replied) ≡ false →
+        (p : Proposing) (d : Head) → Voted p d
+        → actsOn (s .n) (p .replied) (proposingAfter p (d .sender) .replied) ≡ false →
         Outcome (quietWith (withRound h (Round.Proposing (proposingAfter p (d .sender)))))
-    named : (p : Proposing) (d : Head) → Chosen p d → Outcome (sendingWith (namingHost s h (proposingAfter p (d .sender))) (news s h (holderOf s (proposingAfter p (d .sender)))) (othersOf (s .n) (h .number)))
-    namedAlone : (p : Proposing) (d : Head) → Chosen p d → Outcome (quietWith (namingHost s h (proposingAfter p (d .sender))))
-    told : (m : LearnedLease) → Known (gets (Learn m)) → leb (m .end .0) (h .clock) ≡ false → Outcome (quietWith (withNamed h (h .state .round) (namedBy (h .state .named) (learnedHolder m))))
+    named : (p : Proposing) (d : Head) → Chosen p d
+        → Outcome
+        (sendingWith (namingHost s h (proposingAfter p (d .sender)))
+        (news s h (holderOf s (proposingAfter p (d .sender)))) (othersOf (s .n) (h .number)))
+    namedAlone : (p : Proposing) (d : Head) → Chosen p d
+        → Outcome (quietWith (namingHost s h (proposingAfter p (d .sender))))
+    told : (m : LearnedLease) → Known (gets (Learn m)) → leb (m .end .0) (h .clock) ≡ false
+        → Outcome
+        (quietWith (withNamed h (h .state .round) (namedBy (h .state .named) (learnedHolder m))))
 
   -- ---- every step has one of them
 
-  replied : (m : Message) (d : Head) (reply : Accepted) → Reply m d reply → Known (gets m) → (r : Round) → h .state .round ≡ r → Outcome (onPrepareResponse s h r d reply)
+  replied : (m : Message) (d : Head) (reply : Accepted) → Reply m d reply → Known (gets m)
+      → (r : Round) → h .state .round ≡ r → Outcome (onPrepareResponse s h r d reply)
   unfolding onPrepareResponse onReply onCountedReply onMajority
   replied m d reply i g Round.Idle z = nothing
   replied m d reply i g (Round.Proposing p) z = nothing
@@ -111,7 +152,9 @@ module _ (s : Settings) (h : Host) (Known : Cause → Type 0) where
       by-test Outcome (countsReply (a .replied) (d .sender)) _ _
       (λ _. by-test Outcome (hasEnded (h .clock) reply) _ _ (λ _. nothing)
       (λ _. by-test Outcome (actsOn (s .n) (a .replied) (b .replied)) _ _
-      (λ t. by-test Outcome (leb (proposedValue s h b .end .0) (h .clock)) _ _ (λ _. gaveUp) (λ _. proposed a d reply x t))
+      (λ t.
+      by-test Outcome (leb (proposedValue s h b .end .0) (h .clock)) _ _ (λ _. gaveUp)
+      (λ _. proposed a d reply x t))
       (λ t. heard a d reply x t)))
       (λ _. nothing))
       (λ _. nothing)
@@ -119,7 +162,8 @@ module _ (s : Settings) (h : Host) (Known : Cause → Type 0) where
       b : Asking
       b = askingAfter a (d .sender) reply
 
-  vote : (d : Head) → Known (gets (ProposeResponse d)) → (r : Round) → h .state .round ≡ r → Outcome (onProposeResponse s h r d)
+  vote : (d : Head) → Known (gets (ProposeResponse d)) → (r : Round) → h .state .round ≡ r
+      → Outcome (onProposeResponse s h r d)
   unfolding onProposeResponse onVote onCountedVote onChosen onNaming
   vote d g Round.Idle z = nothing
   vote d g (Round.Asking a) z = nothing
@@ -141,23 +185,34 @@ module _ (s : Settings) (h : Host) (Known : Cause → Type 0) where
       q : Proposing
       q = proposingAfter p (d .sender)
 
-  on-message : (m : Message) → Known (gets m) → isWaiting (h .clock) (h .wait) ≡ false → Outcome (onMessage s h m)
+  on-message : (m : Message) → Known (gets m) → isWaiting (h .clock) (h .wait) ≡ false
+      → Outcome (onMessage s h m)
   unfolding onMessage onPrepareRequest onProposeRequest onLearn
-  on-message (PrepareRequest m) g w = by-test Outcome (mayPromise (h .state .promised) (m .ballot)) _ _ (λ t. promised m g w t) (λ _. nothing)
-  on-message (PrepareResponseEmpty m) g w = replied _ m Accepted.Nothing (empty m) g (h .state .round) refl
-  on-message (PrepareResponseLease m) g w = replied _ (m .head) (Accepted.One (m .accepted)) (lease m) g (h .state .round) refl
-  on-message (ProposeRequest m) g w = by-test Outcome (mayAccept (h .state .promised) (h .clock) (leaseOf m)) _ _ (λ t. accepted m g w t) (λ _. nothing)
+  on-message (PrepareRequest m) g w =
+      by-test Outcome (mayPromise (h .state .promised) (m .ballot)) _ _ (λ t. promised m g w t)
+      (λ _. nothing)
+  on-message (PrepareResponseEmpty m) g w =
+      replied _ m Accepted.Nothing (empty m) g (h .state .round) refl
+  on-message (PrepareResponseLease m) g w =
+      replied _ (m .head) (Accepted.One (m .accepted)) (lease m) g (h .state .round) refl
+  on-message (ProposeRequest m) g w =
+      by-test Outcome (mayAccept (h .state .promised) (h .clock) (leaseOf m)) _ _
+      (λ t. accepted m g w t) (λ _. nothing)
   on-message (ProposeResponse m) g w = vote m g (h .state .round) refl
-  on-message (Learn m) g w = by-test Outcome (leb (m .end .0) (h .clock)) _ _ (λ _. nothing) (λ t. told m g t)
+  on-message (Learn m) g w =
+      by-test Outcome (leb (m .end .0) (h .clock)) _ _ (λ _. nothing) (λ t. told m g t)
 
   pub outcome : (c : Cause) → Known c → Outcome (stepOn s h c)
   unfolding onDelivery
   outcome (begins d) k = begun d k
-  outcome (gets m) k = by-test Outcome (isWaiting (h .clock) (h .wait)) (quietWith h) (onMessage s h m) (λ _. nothing) (λ w. on-message m k w)
+  outcome (gets m) k =
+      by-test Outcome (isWaiting (h .clock) (h .wait)) (quietWith h) (onMessage s h m)
+      (λ _. nothing) (λ w. on-message m k w)
 
 -- ---- a step leaves a host its number, its clock and its wait
 
-stays : {s : Settings} {h : Host} {Known : Cause → Type 0} {t : Stepped} → Outcome s h Known t → Stays h t
+stays : {s : Settings} {h : Host} {Known : Cause → Type 0} {t : Stepped} → Outcome s h Known t
+    → Stays h t
 unfolding onStart
 stays nothing = record { number = refl; clock = refl; wait = refl }
 stays (begun d _) = record { number = refl; clock = refl; wait = refl }

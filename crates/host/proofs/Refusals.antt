@@ -6,13 +6,15 @@ use Prim.Native.Nat.{ℕ, _+_, _≤_}
 use native.Mathlib.Omega.{arith}
 use lib.Dec.{leb, eqb}
 use borrow.Author.Tests.{leb-true, eqb-true, eqb-false, not-true, eq-eqb}
-use Rattle.base.specs.Refusals.{done, firstOf, refusedCell, refusedWaiting, refusedDuration, refusedSameTick, refusedClock}
+use Rattle.base.specs.Refusals.{done, firstOf, refusedCell, refusedWaiting, refusedDuration}
+use Rattle.base.specs.Refusals.{refusedSameTick, refusedClock}
 use Rattle.base.proofs.Tests.{by-test, first-passed, unless-passed}
 use Rattle.quorum.specs.Sets.{isIn}
 use Rattle.message.specs.declared.Head.{Head}
 use Rattle.message.specs.declared.LeaseResponse.{LeaseResponse}
 use Rattle.message.specs.declared.Message.{Message}
-use Rattle.message.specs.declared.Message.the-variants.{PrepareResponseEmpty, PrepareResponseLease, ProposeResponse}
+use Rattle.message.specs.declared.Message.the-variants.{PrepareResponseEmpty, PrepareResponseLease}
+use Rattle.message.specs.declared.Message.the-variants.{ProposeResponse}
 use Rattle.message.specs.Message.{lastTick, isSame, numbersOf}
 use Rattle.message.specs.Faults.{faultOf}
 use Rattle.rules.specs.declared.Accepted.{Accepted}
@@ -25,12 +27,16 @@ use Rattle.state.specs.declared.Round.{Round}
 use Rattle.state.specs.StateLimits.{durationOk, sizesOf}
 use Rattle.host.specs.declared.Host.{Host}
 use Rattle.host.specs.declared.Stepped.{Stepped}
-use Rattle.host.specs.Steps.{hostOk, refusedWith, quietWith, advanceRefusal, restartRefusal, startRefusal, onReply, onPrepareResponse, onVote, onProposeResponse, onMessage, onDelivery, receiveRefusal, receiveOf}
+use Rattle.host.specs.Steps.{hostOk, refusedWith, quietWith, advanceRefusal, restartRefusal}
+use Rattle.host.specs.Steps.{startRefusal, onReply, onPrepareResponse, onVote}
+use Rattle.host.specs.Steps.{onProposeResponse, onMessage, onDelivery, receiveRefusal}
+use Rattle.host.specs.Steps.{receiveOf}
 use Rattle.host.proofs.HostLimits.{HostIn, host-in}
 
 -- ---- where nothing is refused
 
-pub advance-in : (s : Settings) (h : Host) (d : ℕ) → advanceRefusal s h d ≡ done → HostIn s h × (h .clock + d ≤ lastTick)
+pub advance-in : (s : Settings) (h : Host) (d : ℕ) → advanceRefusal s h d ≡ done → HostIn s h
+    × (h .clock + d ≤ lastTick)
 unfolding advanceRefusal
 advance-in s h d e =
     let p1 = unless-passed (hostOk s h) refusedCell _ refl e in
@@ -66,7 +72,8 @@ start-in s h d e =
       fresh = p5 .0;
     }
 
-pub message-in : (s : Settings) (h : Host) (m : Message) → receiveRefusal s h m ≡ done → HostIn s h × (faultOf (sizesOf s) (numbersOf m) ≡ done)
+pub message-in : (s : Settings) (h : Host) (m : Message) → receiveRefusal s h m ≡ done → HostIn s h
+    × (faultOf (sizesOf s) (numbersOf m) ≡ done)
 unfolding receiveRefusal
 message-in s h m e =
     let p1 = unless-passed (hostOk s h) refusedCell _ refl e in
@@ -77,7 +84,9 @@ pub restart-passed : (s : Settings) (h : Host) → hostOk s h ≡ true → resta
 unfolding restartRefusal firstOf
 restart-passed s h e = rw e
 
-pub message-passed : (s : Settings) (h : Host) (m : Message) → hostOk s h ≡ true → faultOf (sizesOf s) (numbersOf m) ≡ done → numbersOf m .target ≡ h .number → receiveRefusal s h m ≡ done
+pub message-passed : (s : Settings) (h : Host) (m : Message) → hostOk s h ≡ true
+    → faultOf (sizesOf s) (numbersOf m) ≡ done → numbersOf m .target ≡ h .number
+    → receiveRefusal s h m ≡ done
 unfolding receiveRefusal firstOf
 message-passed s h m e f g = rw (e, f, eq-eqb (numbersOf m .target) (h .number) g)
 
@@ -88,33 +97,53 @@ same-choice : {A : Type 0} (b : Bool) (x y : A) → x ≡ y → cond b x y ≡ y
 same-choice true x y e = e
 same-choice false x y e = refl
 
-counted-already : (s : Settings) (h : Host) (a : Asking) (m : Head) (reply : Accepted) → isIn (a .replied) (m .sender) ≡ true → onReply s h a m reply ≡ quietWith h
+counted-already : (s : Settings) (h : Host) (a : Asking) (m : Head) (reply : Accepted)
+    → isIn (a .replied) (m .sender) ≡ true → onReply s h a m reply ≡ quietWith h
 unfolding onReply
-counted-already s h a m reply e = same-choice (isSame (a .ballot) (m .ballot)) _ (quietWith h) (rw e)
+counted-already s h a m reply e =
+    same-choice (isSame (a .ballot) (m .ballot)) _ (quietWith h) (rw e)
 
-voted-already : (s : Settings) (h : Host) (p : Proposing) (m : Head) → isIn (p .replied) (m .sender) ≡ true → onVote s h p m ≡ quietWith h
+voted-already : (s : Settings) (h : Host) (p : Proposing) (m : Head)
+    → isIn (p .replied) (m .sender) ≡ true → onVote s h p m ≡ quietWith h
 unfolding onVote
 voted-already s h p m e = same-choice (isSame (p .ballot) (m .ballot)) _ (quietWith h) (rw e)
 
 -- nor is anything sent, whatever else is found of the message
-still : (s : Settings) (h : Host) (m : Message) → onMessage s h m ≡ quietWith h → receiveOf s h m ≡ refusedWith (receiveRefusal s h m) h
+still : (s : Settings) (h : Host) (m : Message) → onMessage s h m ≡ quietWith h
+    → receiveOf s h m ≡ refusedWith (receiveRefusal s h m) h
 unfolding receiveOf onDelivery
 still s h m e =
-    by-test (λ (x : Stepped). x ≡ refusedWith (receiveRefusal s h m) h) (eqb (receiveRefusal s h m) done) _ _
-    (λ p. same-choice (isWaiting (h .clock) (h .wait)) (quietWith h) (onMessage s h m) (sym e) ∙ e ∙ ap (λ (k : ℕ). refusedWith k h) (sym (eqb-true (receiveRefusal s h m) done p)))
+    by-test (λ (x : Stepped). x ≡ refusedWith (receiveRefusal s h m) h)
+    (eqb (receiveRefusal s h m) done) _ _
+    (λ p.
+    same-choice (isWaiting (h .clock) (h .wait)) (quietWith h) (onMessage s h m) (sym e) ∙ e
+    ∙ ap (λ (k : ℕ). refusedWith k h) (sym (eqb-true (receiveRefusal s h m) done p)))
     (λ _. refl)
 
-pub already-empty : (s : Settings) (h : Host) (a : Asking) (m : Head) → h .state .round ≡ Round.Asking a → isIn (a .replied) (m .sender) ≡ true
-    → receiveOf s h (PrepareResponseEmpty m) ≡ refusedWith (receiveRefusal s h (PrepareResponseEmpty m)) h
+pub already-empty : (s : Settings) (h : Host) (a : Asking) (m : Head)
+    → h .state .round ≡ Round.Asking a → isIn (a .replied) (m .sender) ≡ true
+    → receiveOf s h (PrepareResponseEmpty m)
+    ≡ refusedWith (receiveRefusal s h (PrepareResponseEmpty m)) h
 unfolding onMessage onPrepareResponse
-already-empty s h a m r e = still s h (PrepareResponseEmpty m) (ap (λ (x : Round). onPrepareResponse s h x m Accepted.Nothing) r ∙ counted-already s h a m Accepted.Nothing e)
+already-empty s h a m r e =
+    still s h (PrepareResponseEmpty m)
+    (ap (λ (x : Round). onPrepareResponse s h x m Accepted.Nothing) r
+    ∙ counted-already s h a m Accepted.Nothing e)
 
-pub already-lease : (s : Settings) (h : Host) (a : Asking) (m : LeaseResponse) → h .state .round ≡ Round.Asking a → isIn (a .replied) (m .head .sender) ≡ true
-    → receiveOf s h (PrepareResponseLease m) ≡ refusedWith (receiveRefusal s h (PrepareResponseLease m)) h
+pub already-lease : (s : Settings) (h : Host) (a : Asking) (m : LeaseResponse)
+    → h .state .round ≡ Round.Asking a → isIn (a .replied) (m .head .sender) ≡ true
+    → receiveOf s h (PrepareResponseLease m)
+    ≡ refusedWith (receiveRefusal s h (PrepareResponseLease m)) h
 unfolding onMessage onPrepareResponse
-already-lease s h a m r e = still s h (PrepareResponseLease m) (ap (λ (x : Round). onPrepareResponse s h x (m .head) (Accepted.One (m .accepted))) r ∙ counted-already s h a (m .head) (Accepted.One (m .accepted)) e)
+already-lease s h a m r e =
+    still s h (PrepareResponseLease m)
+    (ap (λ (x : Round). onPrepareResponse s h x (m .head) (Accepted.One (m .accepted))) r
+    ∙ counted-already s h a (m .head) (Accepted.One (m .accepted)) e)
 
-pub already-vote : (s : Settings) (h : Host) (p : Proposing) (m : Head) → h .state .round ≡ Round.Proposing p → isIn (p .replied) (m .sender) ≡ true
+pub already-vote : (s : Settings) (h : Host) (p : Proposing) (m : Head)
+    → h .state .round ≡ Round.Proposing p → isIn (p .replied) (m .sender) ≡ true
     → receiveOf s h (ProposeResponse m) ≡ refusedWith (receiveRefusal s h (ProposeResponse m)) h
 unfolding onMessage onProposeResponse
-already-vote s h p m r e = still s h (ProposeResponse m) (ap (λ (x : Round). onProposeResponse s h x m) r ∙ voted-already s h p m e)
+already-vote s h p m r e =
+    still s h (ProposeResponse m)
+    (ap (λ (x : Round). onProposeResponse s h x m) r ∙ voted-already s h p m e)

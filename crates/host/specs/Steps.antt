@@ -1,9 +1,10 @@
 -- The steps of one host, in document 01's order: what is refused and what is done, apart. Assumes nothing.
 use Prim.Native.Nat.{ℕ, _+_, _^_}
-use mathlib.Core.Bool.{Bool, false, cond, not}
+use mathlib.Core.Bool.{Bool, cond, not}
 use mathlib.Core.List.{[], _∷_}
 use lib.Dec.{ltb, leb, eqb}
-use Rattle.base.specs.Refusals.{done, unless, firstOf, refusedCell, refusedParty, refusedWaiting, refusedSameTick, refusedDuration, refusedClock}
+use Rattle.base.specs.Refusals.{done, unless, firstOf, refusedCell, refusedParty, refusedWaiting}
+use Rattle.base.specs.Refusals.{refusedSameTick, refusedDuration, refusedClock}
 use Rattle.base.specs.Lists.{allOf}
 use Rattle.quorum.specs.Sets.{singleOf, withHost, everyoneOf, othersOf}
 use Rattle.message.specs.declared.Ballot.{Ballot}
@@ -12,7 +13,9 @@ use Rattle.message.specs.declared.Head.{Head}
 use Rattle.message.specs.declared.Proposal.{Proposal}
 use Rattle.message.specs.declared.LearnedLease.{LearnedLease}
 use Rattle.message.specs.declared.Message.{Message}
-use Rattle.message.specs.declared.Message.the-variants.{PrepareRequest, PrepareResponseEmpty, PrepareResponseLease, ProposeRequest, ProposeResponse, Learn}
+use Rattle.message.specs.declared.Message.the-variants.{PrepareRequest, PrepareResponseEmpty}
+use Rattle.message.specs.declared.Message.the-variants.{PrepareResponseLease, ProposeRequest}
+use Rattle.message.specs.declared.Message.the-variants.{ProposeResponse, Learn}
 use Rattle.message.specs.Message.{lastTick, isSame, toHolders, numbersOf, headWith, targetOf}
 use Rattle.message.specs.Faults.{faultOf}
 use Rattle.rules.specs.declared.Accepted.{Accepted}
@@ -21,7 +24,9 @@ use Rattle.rules.specs.declared.LastBallot.{LastBallot}
 use Rattle.rules.specs.declared.Named.{Named}
 use Rattle.rules.specs.declared.Holder.{Holder}
 use Rattle.rules.specs.declared.Value.{Value}
-use Rattle.rules.specs.Rules.{isWaiting, waitEnd, ballotAt, isFresh, mayPromise, countsReply, hasEnded, higherOf, actsOn, ownEnd, valueToPropose, mayAccept, afterAccept, isNamable, namedBy}
+use Rattle.rules.specs.Rules.{isWaiting, waitEnd, ballotAt, isFresh, mayPromise, countsReply}
+use Rattle.rules.specs.Rules.{hasEnded, higherOf, actsOn, ownEnd, valueToPropose, mayAccept}
+use Rattle.rules.specs.Rules.{afterAccept, isNamable, namedBy}
 use Rattle.state.specs.declared.Settings.{Settings}
 use Rattle.state.specs.declared.Asking.{Asking}
 use Rattle.state.specs.declared.Proposing.{Proposing}
@@ -79,14 +84,36 @@ withState h t = record { number = h .number; clock = h .clock; wait = h .wait; s
 
 abbrev pub withRound : Host → Round → Host
 withRound h r =
-    withState h (record { promised = h .state .promised; accepted = h .state .accepted; last = h .state .last; round = r; named = h .state .named })
+    withState h
+    (record {
+      promised = h .state .promised;
+      accepted = h .state .accepted;
+      last = h .state .last;
+      round = r;
+      named = h .state .named;
+    })
 
 abbrev pub withVote : Host → Promised → Accepted → Host
-withVote h p a = withState h (record { promised = p; accepted = a; last = h .state .last; round = h .state .round; named = h .state .named })
+withVote h p a =
+    withState h
+    (record {
+      promised = p;
+      accepted = a;
+      last = h .state .last;
+      round = h .state .round;
+      named = h .state .named;
+    })
 
 abbrev pub withNamed : Host → Round → Named → Host
 withNamed h r m =
-    withState h (record { promised = h .state .promised; accepted = h .state .accepted; last = h .state .last; round = r; named = m })
+    withState h
+    (record {
+      promised = h .state .promised;
+      accepted = h .state .accepted;
+      last = h .state .last;
+      round = r;
+      named = m;
+    })
 
 -- the target of a message that is handed to a set of receivers: free in document 01, and not looked at by writing to a set
 abbrev pub anyTarget : ℕ
@@ -98,11 +125,20 @@ headFrom h b = headWith (h .number) anyTarget b
 -- ---- advance by d: 1, 15
 
 unfoldable pub advanceRefusal : Settings → Host → ℕ → ℕ
-advanceRefusal s h d = firstOf (unless (hostOk s h) refusedCell ∷ unless (not (eqb d 0)) refusedClock ∷ unless (leb (h .clock + d) lastTick) refusedClock ∷ [])
+advanceRefusal s h d =
+    firstOf
+    (unless (hostOk s h) refusedCell ∷ unless (not (eqb d 0)) refusedClock
+    ∷ unless (leb (h .clock + d) lastTick) refusedClock ∷ [])
 
 -- 'the clock .. go up by d. A host whose clock moved then drops an accepted lease or named holder whose end is at or below its clock'
 unfoldable pub advancedHost : Host → ℕ → Host
-advancedHost h d = record { number = h .number; clock = h .clock + d; wait = h .wait; state = agedAt (h .clock + d) (h .state) }
+advancedHost h d =
+    record {
+      number = h .number;
+      clock = h .clock + d;
+      wait = h .wait;
+      state = agedAt (h .clock + d) (h .state);
+    }
 
 unfoldable pub advanceOf : Settings → Host → ℕ → Stepped
 advanceOf s h d = stepWith (advanceRefusal s h d) h (quietWith (advancedHost h d))
@@ -114,7 +150,13 @@ restartRefusal s h = firstOf (unless (hostOk s h) refusedCell ∷ [])
 
 -- 'everything but the clock is forgotten'
 unfoldable pub restartedHost : Settings → Host → Host
-restartedHost s h = record { number = h .number; clock = h .clock; wait = waitEnd (h .clock) (s .longest) (s .spread); state = blankState }
+restartedHost s h =
+    record {
+      number = h .number;
+      clock = h .clock;
+      wait = waitEnd (h .clock) (s .longest) (s .spread);
+      state = blankState;
+    }
 
 unfoldable pub restartOf : Settings → Host → Stepped
 restartOf s h = stepWith (restartRefusal s h) h (quietWith (restartedHost s h))
@@ -138,13 +180,22 @@ askingHost h d = withState h (record {
   promised = h .state .promised;
   accepted = h .state .accepted;
   last = LastBallot.At (h .clock);
-  round = Round.Asking (record { ballot = ballotAt (h .clock) (h .number); duration = d; replied = 0; kept = Accepted.Nothing });
+  round =
+      Round.Asking
+      (record {
+        ballot = ballotAt (h .clock) (h .number);
+        duration = d;
+        replied = 0;
+        kept = Accepted.Nothing;
+      });
   named = h .state .named;
 })
 
 -- 'a prepare request goes to all n hosts, itself included'
 unfoldable pub onStart : Settings → Host → ℕ → Stepped
-onStart s h d = sendingWith (askingHost h d) (PrepareRequest (headFrom h (ballotAt (h .clock) (h .number)))) (everyoneOf (s .n))
+onStart s h d =
+    sendingWith (askingHost h d) (PrepareRequest (headFrom h (ballotAt (h .clock) (h .number))))
+    (everyoneOf (s .n))
 
 unfoldable pub startOf : Settings → Host → ℕ → Stepped
 startOf s h d = stepWith (startRefusal s h d) h (onStart s h d)
@@ -160,36 +211,51 @@ responseWith m (Accepted.One l) = PrepareResponseLease (record { head = m; accep
 unfoldable pub onPrepareRequest : Host → Head → Stepped
 onPrepareRequest h m =
     cond (mayPromise (h .state .promised) (m .ballot))
-    (sendingWith (withVote h (Promised.To (m .ballot)) (h .state .accepted)) (responseWith (headFrom h (m .ballot)) (h .state .accepted)) (singleOf (m .ballot .host)))
+    (sendingWith (withVote h (Promised.To (m .ballot)) (h .state .accepted))
+    (responseWith (headFrom h (m .ballot)) (h .state .accepted)) (singleOf (m .ballot .host)))
     (quietWith h)
 
 -- ---- prepare response
 
 -- 'count it and keep the reply with the highest accepted ballot'
 unfoldable pub askingAfter : Asking → ℕ → Accepted → Asking
-askingAfter a sender reply = record { ballot = a .ballot; duration = a .duration; replied = withHost (a .replied) sender; kept = higherOf (a .kept) reply }
+askingAfter a sender reply =
+    record {
+      ballot = a .ballot;
+      duration = a .duration;
+      replied = withHost (a .replied) sender;
+      kept = higherOf (a .kept) reply;
+    }
 
 -- 'if the resulting end is at or below its clock the round becomes idle; else it is proposing and sends to all n'
 unfoldable pub onMajority : Settings → Host → Ballot → Value → Stepped
 onMajority s h b k =
     cond (leb (k .end .0) (h .clock)) (quietWith (withRound h Round.Idle))
-    (sendingWith (withRound h (Round.Proposing (record { ballot = b; owner = k .owner; end = k .end; replied = 0 })))
-    (ProposeRequest (record { head = headFrom h b; owner = k .owner; end = k .end })) (everyoneOf (s .n)))
+    (sendingWith
+    (withRound h
+    (Round.Proposing (record { ballot = b; owner = k .owner; end = k .end; replied = 0 })))
+    (ProposeRequest (record { head = headFrom h b; owner = k .owner; end = k .end }))
+    (everyoneOf (s .n)))
 
 -- the lease to propose
 abbrev pub proposedValue : Settings → Host → Asking → Value
-proposedValue s h a = valueToPropose (h .number) (h .clock) (ownEnd (a .ballot .tick) (a .duration) (s .spread)) (a .kept)
+proposedValue s h a =
+    valueToPropose (h .number) (h .clock) (ownEnd (a .ballot .tick) (a .duration) (s .spread))
+    (a .kept)
 
 -- 'when the count reaches a majority'
 unfoldable pub onCountedReply : Settings → Host → ℕ → Asking → Stepped
-onCountedReply s h before a = cond (actsOn (s .n) before (a .replied)) (onMajority s h (a .ballot) (proposedValue s h a)) (quietWith (withRound h (Round.Asking a)))
+onCountedReply s h before a =
+    cond (actsOn (s .n) before (a .replied)) (onMajority s h (a .ballot) (proposedValue s h a))
+    (quietWith (withRound h (Round.Asking a)))
 
 -- 'to the ballot being asked, from a host not yet counted: if it carries a lease whose end is at or below the receiver's clock, it is discarded'
 unfoldable pub onReply : Settings → Host → Asking → Head → Accepted → Stepped
 onReply s h a m reply =
     cond (isSame (a .ballot) (m .ballot))
     (cond (countsReply (a .replied) (m .sender))
-    (cond (hasEnded (h .clock) reply) (quietWith h) (onCountedReply s h (a .replied) (askingAfter a (m .sender) reply)))
+    (cond (hasEnded (h .clock) reply) (quietWith h)
+    (onCountedReply s h (a .replied) (askingAfter a (m .sender) reply)))
     (quietWith h))
     (quietWith h)
 
@@ -208,14 +274,22 @@ leaseOf m = record { ballot = m .head .ballot; owner = m .owner; end = m .end }
 unfoldable pub onProposeRequest : Host → Proposal → Stepped
 onProposeRequest h m =
     cond (mayAccept (h .state .promised) (h .clock) (leaseOf m))
-    (sendingWith (withVote h (afterAccept (leaseOf m) .promised) (afterAccept (leaseOf m) .accepted)) (ProposeResponse (headFrom h (m .head .ballot))) (singleOf (m .head .ballot .host)))
+    (sendingWith
+    (withVote h (afterAccept (leaseOf m) .promised) (afterAccept (leaseOf m) .accepted))
+    (ProposeResponse (headFrom h (m .head .ballot))) (singleOf (m .head .ballot .host)))
     (quietWith h)
 
 -- ---- propose response
 
 -- 'count it'
 unfoldable pub proposingAfter : Proposing → ℕ → Proposing
-proposingAfter p sender = record { ballot = p .ballot; owner = p .owner; end = p .end; replied = withHost (p .replied) sender }
+proposingAfter p sender =
+    record {
+      ballot = p .ballot;
+      owner = p .owner;
+      end = p .end;
+      replied = withHost (p .replied) sender;
+    }
 
 -- the holder that a chosen lease names: 'the holder's end is S ticks earlier'
 abbrev pub holderOf : Settings → Proposing → Holder
@@ -225,24 +299,30 @@ holderOf s p = record { ballot = p .ballot; owner = p .owner; end = toHolders (p
 unfoldable pub onNaming : Settings → Host → Holder → Host → Stepped
 onNaming s h k after =
     cond (eqb (s .n) 1) (quietWith after)
-    (sendingWith after (Learn (record { head = headFrom h (k .ballot); owner = k .owner; end = k .end })) (othersOf (s .n) (h .number)))
+    (sendingWith after
+    (Learn (record { head = headFrom h (k .ballot); owner = k .owner; end = k .end }))
+    (othersOf (s .n) (h .number)))
 
 -- 'the round becomes idle; if the keepers' end is above clock + S, the host names the owner'
 unfoldable pub onChosen : Settings → Host → Proposing → Stepped
 onChosen s h p =
     cond (isNamable (h .clock) (s .spread) (p .end))
-    (onNaming s h (holderOf s p) (withNamed h Round.Idle (namedBy (h .state .named) (holderOf s p))))
+    (onNaming s h (holderOf s p)
+    (withNamed h Round.Idle (namedBy (h .state .named) (holderOf s p))))
     (quietWith (withRound h Round.Idle))
 
 -- 'count it. At a majority ..'
 unfoldable pub onCountedVote : Settings → Host → ℕ → Proposing → Stepped
-onCountedVote s h before p = cond (actsOn (s .n) before (p .replied)) (onChosen s h p) (quietWith (withRound h (Round.Proposing p)))
+onCountedVote s h before p =
+    cond (actsOn (s .n) before (p .replied)) (onChosen s h p)
+    (quietWith (withRound h (Round.Proposing p)))
 
 -- 'to the ballot being proposed, from a host not yet counted'
 unfoldable pub onVote : Settings → Host → Proposing → Head → Stepped
 onVote s h p m =
     cond (isSame (p .ballot) (m .ballot))
-    (cond (countsReply (p .replied) (m .sender)) (onCountedVote s h (p .replied) (proposingAfter p (m .sender))) (quietWith h))
+    (cond (countsReply (p .replied) (m .sender))
+    (onCountedVote s h (p .replied) (proposingAfter p (m .sender))) (quietWith h))
     (quietWith h)
 
 -- a response to a host that proposes nothing is nothing
@@ -259,14 +339,17 @@ learnedHolder m = record { ballot = m .head .ballot; owner = m .owner; end = m .
 
 -- 'nothing if its end is at or below the clock. Else name the owner'
 unfoldable pub onLearn : Host → LearnedLease → Stepped
-onLearn h m = cond (leb (m .end .0) (h .clock)) (quietWith h) (quietWith (withNamed h (h .state .round) (namedBy (h .state .named) (learnedHolder m))))
+onLearn h m =
+    cond (leb (m .end .0) (h .clock)) (quietWith h)
+    (quietWith (withNamed h (h .state .round) (namedBy (h .state .named) (learnedHolder m))))
 
 -- ---- a message, by its kind
 
 unfoldable pub onMessage : Settings → Host → Message → Stepped
 onMessage s h (PrepareRequest m) = onPrepareRequest h m
 onMessage s h (PrepareResponseEmpty m) = onPrepareResponse s h (h .state .round) m Accepted.Nothing
-onMessage s h (PrepareResponseLease m) = onPrepareResponse s h (h .state .round) (m .head) (Accepted.One (m .accepted))
+onMessage s h (PrepareResponseLease m) =
+    onPrepareResponse s h (h .state .round) (m .head) (Accepted.One (m .accepted))
 onMessage s h (ProposeRequest m) = onProposeRequest h m
 onMessage s h (ProposeResponse m) = onProposeResponse s h (h .state .round) m
 onMessage s h (Learn m) = onLearn h m
@@ -277,7 +360,10 @@ onDelivery s h m = cond (isWaiting (h .clock) (h .wait)) (quietWith h) (onMessag
 
 -- 1, then as writing to its target refuses it, then 7 where its target is another host
 unfoldable pub receiveRefusal : Settings → Host → Message → ℕ
-receiveRefusal s h m = firstOf (unless (hostOk s h) refusedCell ∷ faultOf (sizesOf s) (numbersOf m) ∷ unless (eqb (targetOf m) (h .number)) refusedParty ∷ [])
+receiveRefusal s h m =
+    firstOf
+    (unless (hostOk s h) refusedCell ∷ faultOf (sizesOf s) (numbersOf m)
+    ∷ unless (eqb (targetOf m) (h .number)) refusedParty ∷ [])
 
 unfoldable pub receiveOf : Settings → Host → Message → Stepped
 receiveOf s h m = stepWith (receiveRefusal s h m) h (onDelivery s h m)

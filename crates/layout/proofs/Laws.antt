@@ -10,11 +10,18 @@ use Rattle.wire.specs.Wire.{numberAt, total, numbersAt, packed}
 use Rattle.wire.proofs.Laws.{Fits, packed-length, numbers-packed, packed-numbers, numbers-within}
 use Rattle.message.specs.declared.Numbers.{Numbers}
 use Rattle.message.specs.declared.Message.{Message}
-use Rattle.message.specs.declared.Message.the-variants.{PrepareRequest, PrepareResponseEmpty, PrepareResponseLease, ProposeRequest, ProposeResponse, Learn}
-use Rattle.message.specs.Message.{prepareResponseLease, proposeRequest, learn, knownKind, numbersOf, messageOf}
-use Rattle.message.specs.Faults.{Field, frameLength, kindNumber, sender, ballotTick, acceptedTick, acceptedHost, owner, keepersEnd, holdersEnd}
+use Rattle.message.specs.declared.Message.the-variants.{PrepareRequest, PrepareResponseEmpty}
+use Rattle.message.specs.declared.Message.the-variants.{PrepareResponseLease, ProposeRequest}
+use Rattle.message.specs.declared.Message.the-variants.{ProposeResponse, Learn}
+use Rattle.message.specs.Message.{prepareResponseLease, proposeRequest, learn, knownKind, numbersOf}
+use Rattle.message.specs.Message.{messageOf}
+use Rattle.message.specs.Faults.{Field, frameLength, kindNumber, sender, ballotTick, acceptedTick}
+use Rattle.message.specs.Faults.{acceptedHost, owner, keepersEnd, holdersEnd}
 use Rattle.message.proofs.Laws.{by-kind}
-use Rattle.layout.specs.Layout.{Fit, widthOf, common, moreOf, fieldsOf, widths, kindLength, offsetIn, lengthOffset, kindOffset, foreLength, ballotOffset, headLength, mostLength, valueOf, bytesOf, valueIn, numbersFrom, numbersIn}
+use Rattle.layout.specs.Layout.{Fit, widthOf, common, moreOf, fieldsOf, widths, kindLength}
+use Rattle.layout.specs.Layout.{offsetIn, lengthOffset, kindOffset, foreLength, ballotOffset}
+use Rattle.layout.specs.Layout.{headLength, mostLength, valueOf, bytesOf, valueIn}
+use Rattle.layout.specs.Layout.{numbersFrom, numbersIn}
 
 -- ---- lengths
 
@@ -24,7 +31,9 @@ length-least k = omega arith
 
 pub length-most : (k : ℕ) → knownKind k ≡ true → kindLength k ≤ mostLength
 unfolding kindLength moreOf total
-length-most = by-kind (λ (k : ℕ). kindLength k ≤ mostLength) (lit≤ tt) (lit≤ tt) (lit≤ tt) (lit≤ tt) (lit≤ tt) (lit≤ tt)
+length-most =
+    by-kind (λ (k : ℕ). kindLength k ≤ mostLength) (lit≤ tt) (lit≤ tt) (lit≤ tt) (lit≤ tt) (lit≤ tt)
+    (lit≤ tt)
 
 -- a frame that is no longer than its head has no more fields
 pub no-more : (k : ℕ) → kindLength k ≡ headLength → moreOf k ≡ []
@@ -32,7 +41,9 @@ unfolding kindLength moreOf total
 no-more k = go (eqb k prepareResponseLease) (eqb k proposeRequest) (eqb k learn)
   where
     go : (a b c : Bool) →
-        let fs = cond a (acceptedTick ∷ acceptedHost ∷ owner ∷ keepersEnd ∷ []) (cond b (owner ∷ keepersEnd ∷ []) (cond c (owner ∷ holdersEnd ∷ []) [])) in
+        let fs =
+        cond a (acceptedTick ∷ acceptedHost ∷ owner ∷ keepersEnd ∷ [])
+        (cond b (owner ∷ keepersEnd ∷ []) (cond c (owner ∷ holdersEnd ∷ []) [])) in
         total (widths (common ++ fs)) ≡ headLength → fs ≡ []
     go true b c e = absurd (omega arith)
     go false true c e = absurd (omega arith)
@@ -44,22 +55,30 @@ pub bytes-length : (f : Numbers) → length (bytesOf f) ≡ kindLength (f .kind)
 unfolding bytesOf kindLength
 bytes-length f =
     let fs = fieldsOf (f .kind) in
-    packed-length (widths fs) (map (valueOf f) fs) (length-map fs widthOf ∙ sym (length-map fs (valueOf f)))
+    packed-length (widths fs) (map (valueOf f) fs)
+    (length-map fs widthOf ∙ sym (length-map fs (valueOf f)))
 
 -- ---- there and back
 
-common-fits : (f : Numbers) (more : List Field) → kindLength (f .kind) < 65536 → f .kind < 65536 → Fit f → Fits (widths more) (map (valueOf f) more)
+common-fits : (f : Numbers) (more : List Field) → kindLength (f .kind) < 65536 → f .kind < 65536
+    → Fit f → Fits (widths more) (map (valueOf f) more)
     → Fits (widths (common ++ more)) (map (valueOf f) (common ++ more))
 common-fits f more z k h m = (z, (k, (h .sender, (h .target, (h .ballotTick, (h .ballotHost, m))))))
 
-fits : (m : Message) → Fit (numbersOf m) → Fits (widths (fieldsOf (numbersOf m .kind))) (map (valueOf (numbersOf m)) (fieldsOf (numbersOf m .kind)))
+fits : (m : Message) → Fit (numbersOf m)
+    → Fits (widths (fieldsOf (numbersOf m .kind)))
+    (map (valueOf (numbersOf m)) (fieldsOf (numbersOf m .kind)))
 unfolding numbersOf kindLength moreOf total
 fits (PrepareRequest m) h = common-fits _ [] (lit< tt) (lit< tt) h tt
 fits (PrepareResponseEmpty m) h = common-fits _ [] (lit< tt) (lit< tt) h tt
-fits (PrepareResponseLease m) h = common-fits _ (moreOf prepareResponseLease) (lit< tt) (lit< tt) h (h .acceptedTick, (h .acceptedHost, (h .owner, (h .keepersEnd, tt))))
-fits (ProposeRequest m) h = common-fits _ (moreOf proposeRequest) (lit< tt) (lit< tt) h (h .owner, (h .keepersEnd, tt))
+fits (PrepareResponseLease m) h =
+    common-fits _ (moreOf prepareResponseLease) (lit< tt) (lit< tt) h
+    (h .acceptedTick, (h .acceptedHost, (h .owner, (h .keepersEnd, tt))))
+fits (ProposeRequest m) h =
+    common-fits _ (moreOf proposeRequest) (lit< tt) (lit< tt) h (h .owner, (h .keepersEnd, tt))
 fits (ProposeResponse m) h = common-fits _ [] (lit< tt) (lit< tt) h tt
-fits (Learn m) h = common-fits _ (moreOf learn) (lit< tt) (lit< tt) h (h .owner, (h .holdersEnd, tt))
+fits (Learn m) h =
+    common-fits _ (moreOf learn) (lit< tt) (lit< tt) h (h .owner, (h .holdersEnd, tt))
 
 from-values : (m : Message) →
     let f = numbersOf m in
@@ -73,7 +92,8 @@ from-values (ProposeResponse m) = refl
 from-values (Learn m) = refl
 
 -- what was written is read, whatever follows
-pub numbers-back : (m : Message) (t : List ℕ) → Fit (numbersOf m) → numbersIn (bytesOf (numbersOf m) ++ t) (numbersOf m .kind) ≡ numbersOf m
+pub numbers-back : (m : Message) (t : List ℕ) → Fit (numbersOf m)
+    → numbersIn (bytesOf (numbersOf m) ++ t) (numbersOf m .kind) ≡ numbersOf m
 unfolding numbersIn bytesOf
 numbers-back m t h =
     let f = numbersOf m in
@@ -81,16 +101,22 @@ numbers-back m t h =
     rw (numbers-packed (widths fs) (map (valueOf f) fs) t (fits m h)) (from-values m)
 
 -- numbers that were read are those of a message
-pub message-back : (s : List ℕ) (k : ℕ) → knownKind k ≡ true → numbersOf (messageOf (numbersIn s k)) ≡ numbersIn s k
+pub message-back : (s : List ℕ) (k : ℕ) → knownKind k ≡ true
+    → numbersOf (messageOf (numbersIn s k)) ≡ numbersIn s k
 unfolding numbersIn moreOf valueIn numbersAt numbersOf messageOf
-message-back s = by-kind (λ (k : ℕ). numbersOf (messageOf (numbersIn s k)) ≡ numbersIn s k) refl refl refl refl refl refl
+message-back s =
+    by-kind (λ (k : ℕ). numbersOf (messageOf (numbersIn s k)) ≡ numbersIn s k) refl refl refl refl
+    refl refl
 
 module _ (s : List ℕ) where
-  values-in : (k : ℕ) → knownKind k ≡ true → numberAt s 2 2 ≡ k → numberAt s 0 2 ≡ kindLength k → map (valueOf (numbersIn s k)) (fieldsOf k) ≡ numbersAt s 0 (widths (fieldsOf k))
+  values-in : (k : ℕ) → knownKind k ≡ true → numberAt s 2 2 ≡ k → numberAt s 0 2 ≡ kindLength k
+      → map (valueOf (numbersIn s k)) (fieldsOf k) ≡ numbersAt s 0 (widths (fieldsOf k))
   unfolding kindLength numbersIn moreOf valueIn numbersAt total
   values-in =
       by-kind
-      (λ (k : ℕ). numberAt s 2 2 ≡ k → numberAt s 0 2 ≡ kindLength k → map (valueOf (numbersIn s k)) (fieldsOf k) ≡ numbersAt s 0 (widths (fieldsOf k)))
+      (λ (k : ℕ).
+      numberAt s 2 2 ≡ k → numberAt s 0 2 ≡ kindLength k
+      → map (valueOf (numbersIn s k)) (fieldsOf k) ≡ numbersAt s 0 (widths (fieldsOf k)))
       (λ a l. rw (a, l))
       (λ a l. rw (a, l))
       (λ a l. rw (a, l))
@@ -99,12 +125,16 @@ module _ (s : List ℕ) where
       (λ a l. rw (a, l))
 
   -- what was read is written: the bytes that were there
-  pub bytes-back : (k : ℕ) → ((i : ℕ) → getD s i 0 < 256) → knownKind k ≡ true → kindLength k ≤ length s → numberAt s 2 2 ≡ k → numberAt s 0 2 ≡ kindLength k → bytesOf (numbersIn s k) ≡ take (kindLength k) s
+  pub bytes-back : (k : ℕ) → ((i : ℕ) → getD s i 0 < 256) → knownKind k ≡ true
+      → kindLength k ≤ length s → numberAt s 2 2 ≡ k → numberAt s 0 2 ≡ kindLength k
+      → bytesOf (numbersIn s k) ≡ take (kindLength k) s
   unfolding bytesOf numbersIn kindLength
-  bytes-back k b h l a e = ap (packed (widths (fieldsOf k))) (values-in k h a e) ∙ packed-numbers s 0 (widths (fieldsOf k)) b (omega (arith, l))
+  bytes-back k b h l a e = ap (packed (widths (fieldsOf k))) (values-in k h a e)
+      ∙ packed-numbers s 0 (widths (fieldsOf k)) b (omega (arith, l))
 
   -- bytes after a whole frame are not looked at
-  pub numbers-whole : (t : List ℕ) (k : ℕ) → kindLength k ≤ length s → numbersIn (s ++ t) k ≡ numbersIn s k
+  pub numbers-whole : (t : List ℕ) (k : ℕ) → kindLength k ≤ length s
+      → numbersIn (s ++ t) k ≡ numbersIn s k
   unfolding numbersIn kindLength
   numbers-whole t k l = rw (numbers-within s t 0 (widths (fieldsOf k)) (omega (arith, l)))
 
@@ -120,4 +150,12 @@ pub record Constants : Type 0 where
 
 pub constants : Constants
 unfolding offsetIn total kindLength moreOf
-constants = record { length-stands = refl; kind-stands = refl; fore = refl; ballot-stands = refl; head = refl; most = refl }
+constants =
+    record {
+      length-stands = refl;
+      kind-stands = refl;
+      fore = refl;
+      ballot-stands = refl;
+      head = refl;
+      most = refl;
+    }

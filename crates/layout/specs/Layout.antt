@@ -6,7 +6,9 @@ use lib.Dec.{eqb}
 use Rattle.wire.specs.Wire.{total, numbersAt, packed}
 use Rattle.message.specs.declared.Numbers.{Numbers}
 use Rattle.message.specs.Message.{prepareResponseLease, proposeRequest, learn}
-use Rattle.message.specs.Faults.{Field, settings, lentBytes, frameLength, kindNumber, sender, target, ballotTick, ballotHost, acceptedTick, acceptedHost, owner, keepersEnd, holdersEnd}
+use Rattle.message.specs.Faults.{Field, settings, lentBytes, frameLength, kindNumber, sender}
+use Rattle.message.specs.Faults.{target, ballotTick, ballotHost, acceptedTick, acceptedHost, owner}
+use Rattle.message.specs.Faults.{keepersEnd, holdersEnd}
 
 -- how many bytes a field takes
 abbrev pub widthOf : Field → ℕ

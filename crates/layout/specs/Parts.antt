@@ -8,7 +8,8 @@ use Rattle.message.specs.declared.Head.{Head}
 use Rattle.message.specs.declared.Lease.{Lease}
 use Rattle.message.specs.declared.Numbers.{Numbers}
 use Rattle.message.specs.Message.{prepareRequest, prepareResponseLease, headWith}
-use Rattle.message.specs.Faults.{Field, sender, target, ballotTick, ballotHost, acceptedTick, acceptedHost, owner, keepersEnd}
+use Rattle.message.specs.Faults.{Field, sender, target, ballotTick, ballotHost, acceptedTick}
+use Rattle.message.specs.Faults.{acceptedHost, owner, keepersEnd}
 use Rattle.layout.specs.Layout.{widthOf, kindLength, offsetOf}
 
 -- the number in a field of a frame of kind k
@@ -24,7 +25,11 @@ headAt s =
 abbrev pub leaseAt : List ℕ → Lease
 leaseAt s =
     let at = fieldAt s prepareResponseLease in
-    record { ballot = record { tick = at acceptedTick; host = at acceptedHost }; owner = at owner; end = record { 0 = at keepersEnd } }
+    record {
+      ballot = record { tick = at acceptedTick; host = at acceptedHost };
+      owner = at owner;
+      end = record { 0 = at keepersEnd };
+    }
 
 -- len is the length of a frame of these numbers, and `out` has this many bytes
 pub record Room (f : Numbers) (len bytes : ℕ) (out : List ℕ) : Type 0 where

@@ -16,9 +16,15 @@ use Rattle.message.specs.declared.Ballot.{Ballot}
 use Rattle.message.specs.declared.Sizes.{Sizes}
 use Rattle.message.specs.declared.Numbers.{Numbers}
 use Rattle.message.specs.declared.Message.{Message}
-use Rattle.message.specs.declared.Message.the-variants.{PrepareRequest, PrepareResponseEmpty, PrepareResponseLease, ProposeRequest, ProposeResponse, Learn}
-use Rattle.message.specs.Message.{lastTick, lastEnd, isAbove, prepareRequest, prepareResponseEmpty, prepareResponseLease, proposeRequest, proposeResponse, learn, knownKind, isResponse, numbersOf, messageOf, withTarget, addressedTo, targetOf}
-use Rattle.message.specs.Faults.{hostTests, tickTests, messageRefusals, partyFits, faultOf, partyFitsTo, faultTo}
+use Rattle.message.specs.declared.Message.the-variants.{PrepareRequest, PrepareResponseEmpty}
+use Rattle.message.specs.declared.Message.the-variants.{PrepareResponseLease, ProposeRequest}
+use Rattle.message.specs.declared.Message.the-variants.{ProposeResponse, Learn}
+use Rattle.message.specs.Message.{lastTick, lastEnd, isAbove, prepareRequest}
+use Rattle.message.specs.Message.{prepareResponseEmpty, prepareResponseLease, proposeRequest}
+use Rattle.message.specs.Message.{proposeResponse, learn, knownKind, isResponse, numbersOf}
+use Rattle.message.specs.Message.{messageOf, withTarget, addressedTo, targetOf}
+use Rattle.message.specs.Faults.{hostTests, tickTests, messageRefusals, partyFits, faultOf}
+use Rattle.message.specs.Faults.{partyFitsTo, faultTo}
 
 -- ---- the order of ballots
 
@@ -32,10 +38,15 @@ pub above-one-way : (a b : Ballot) → isAbove a b ≡ true → isAbove b a ≡ 
 unfolding isAbove
 above-one-way a b e = go (eqb (a .tick) (b .tick)) refl e
   where
-    go : (t : Bool) → eqb (a .tick) (b .tick) ≡ t → cond t (ltb (b .host) (a .host)) (ltb (b .tick) (a .tick)) ≡ true → cond (eqb (b .tick) (a .tick)) (ltb (a .host) (b .host)) (ltb (a .tick) (b .tick)) ≡ false
+    go : (t : Bool) → eqb (a .tick) (b .tick) ≡ t
+        → cond t (ltb (b .host) (a .host)) (ltb (b .tick) (a .tick)) ≡ true
+        → cond (eqb (b .tick) (a .tick)) (ltb (a .host) (b .host)) (ltb (a .tick) (b .tick)) ≡ false
     go true p q =
         let l = ltb-true (b .host) (a .host) q in
-        rw (eq-eqb (b .tick) (a .tick) (sym (eqb-true (a .tick) (b .tick) p)), le-ltb (a .host) (b .host) (omega arith))
+        rw (
+          eq-eqb (b .tick) (a .tick) (sym (eqb-true (a .tick) (b .tick) p)),
+          le-ltb (a .host) (b .host) (omega arith),
+        )
     go false p q =
         let l = ltb-true (b .tick) (a .tick) q in
         rw (ne-eqb (b .tick) (a .tick) (λ s. omega arith), le-ltb (a .tick) (b .tick) (omega arith))
@@ -64,9 +75,12 @@ numbers-to (Learn m) h = refl
 -- ---- kinds
 
 -- what holds of each of the six kinds holds of every number that is a kind
-pub by-kind : (P : ℕ → Type 0) → P prepareRequest → P prepareResponseEmpty → P prepareResponseLease → P proposeRequest → P proposeResponse → P learn → (k : ℕ) → knownKind k ≡ true → P k
+pub by-kind : (P : ℕ → Type 0) → P prepareRequest → P prepareResponseEmpty → P prepareResponseLease
+    → P proposeRequest → P proposeResponse → P learn → (k : ℕ) → knownKind k ≡ true → P k
 unfolding knownKind
-by-kind P a b c d e f zero h = absurd (omega (arith, leb-true prepareRequest 0 (both (leb prepareRequest 0) (leb 0 learn) h .0)))
+by-kind P a b c d e f zero h =
+    absurd
+    (omega (arith, leb-true prepareRequest 0 (both (leb prepareRequest 0) (leb 0 learn) h .0)))
 by-kind P a b c d e f (suc zero) h = a
 by-kind P a b c d e f (suc (suc zero)) h = b
 by-kind P a b c d e f (suc (suc (suc zero))) h = c
@@ -101,7 +115,8 @@ pub record Passed (z : Sizes) (f : Numbers) (targetFits partyFits : Bool) : Type
   pub holdersEnd : f .holders .0 ≤ lastEnd
   pub party : partyFits ≡ true
 
-pub passed : (z : Sizes) (f : Numbers) (t p : Bool) → answerBy (messageRefusals z f t p) ≡ 0 → Passed z f t p
+pub passed : (z : Sizes) (f : Numbers) (t p : Bool) → answerBy (messageRefusals z f t p) ≡ 0
+    → Passed z f t p
 unfolding All
 passed z f t p e =
     let q1 = unless-passed (allHold (hostTests z f t)) refusedHost _ refl e in
@@ -123,35 +138,59 @@ passed z f t p e =
     }
 
 -- and where all that holds, nothing is refused
-pub passing : (z : Sizes) (f : Numbers) (t p : Bool) → Passed z f t p → answerBy (messageRefusals z f t p) ≡ 0
+pub passing : (z : Sizes) (f : Numbers) (t p : Bool) → Passed z f t p
+    → answerBy (messageRefusals z f t p) ≡ 0
 unfolding firstOf All
 passing z f t p i =
     let n = z .n in
     let hosts : allHold (hostTests z f t) ≡ true =
-    out-all-of _ (lt-ltb (f .sender) n (i .sender), (i .target, (lt-ltb (f .ballot .host) n (i .ballotHost), (lt-ltb (f .accepted .host) n (i .acceptedHost), (lt-ltb (f .owner) n (i .owner), tt))))) in
+    out-all-of _ (
+      lt-ltb (f .sender) n (i .sender),
+      (
+        i .target,
+        (
+          lt-ltb (f .ballot .host) n (i .ballotHost),
+          (lt-ltb (f .accepted .host) n (i .acceptedHost), (lt-ltb (f .owner) n (i .owner), tt)),
+        ),
+      ),
+    ) in
     let ticks : allHold (tickTests f) ≡ true =
-    out-all-of _ (le-leb (f .ballot .tick) lastTick (i .ballotTick), (le-leb (f .accepted .tick) lastTick (i .acceptedTick), (le-leb (f .keepers .0) lastEnd (i .keepersEnd), (le-leb (f .holders .0) lastEnd (i .holdersEnd), tt)))) in
+    out-all-of _ (
+      le-leb (f .ballot .tick) lastTick (i .ballotTick),
+      (
+        le-leb (f .accepted .tick) lastTick (i .acceptedTick),
+        (
+          le-leb (f .keepers .0) lastEnd (i .keepersEnd),
+          (le-leb (f .holders .0) lastEnd (i .holdersEnd), tt),
+        ),
+      ),
+    ) in
     rw (hosts, ticks, out-all-of (p ∷ []) (i .party, tt))
 
-pub fault-passed : (z : Sizes) (f : Numbers) → faultOf z f ≡ 0 → Passed z f (ltb (f .target) (z .n)) (partyFits f)
+pub fault-passed : (z : Sizes) (f : Numbers) → faultOf z f ≡ 0
+    → Passed z f (ltb (f .target) (z .n)) (partyFits f)
 unfolding faultOf
 fault-passed z f e = passed z f _ _ e
 
-pub passed-to : (z : Sizes) (f : Numbers) (set : ℕ) → faultTo z f set ≡ 0 → Passed z f (isBelow set (z .n)) (partyFitsTo f set)
+pub passed-to : (z : Sizes) (f : Numbers) (set : ℕ) → faultTo z f set ≡ 0
+    → Passed z f (isBelow set (z .n)) (partyFitsTo f set)
 unfolding faultTo
 passed-to z f set e = passed z f _ _ e
 
-pub passing-to : (z : Sizes) (f : Numbers) (set : ℕ) → Passed z f (isBelow set (z .n)) (partyFitsTo f set) → faultTo z f set ≡ 0
+pub passing-to : (z : Sizes) (f : Numbers) (set : ℕ)
+    → Passed z f (isBelow set (z .n)) (partyFitsTo f set) → faultTo z f set ≡ 0
 unfolding faultTo
 passing-to z f set i = passing z f _ _ i
 
-party-each : (b : Bool) (f : Numbers) (set h : ℕ) → isIn set h ≡ true → cond b (isOnly set (f .ballot .host)) (eqb (f .sender) (f .ballot .host)) ≡ true
+party-each : (b : Bool) (f : Numbers) (set h : ℕ) → isIn set h ≡ true
+    → cond b (isOnly set (f .ballot .host)) (eqb (f .sender) (f .ballot .host)) ≡ true
     → cond b (eqb h (f .ballot .host)) (eqb (f .sender) (f .ballot .host)) ≡ true
 party-each true f set h m e = eq-eqb h (f .ballot .host) (only-one set (f .ballot .host) h e m)
 party-each false f set h m e = e
 
 -- what may be sent to a set may be sent to each of its hosts
-pub fault-each : (z : Sizes) (f : Numbers) (set h : ℕ) → faultTo z f set ≡ 0 → Member (z .n) set h → faultOf z (withTarget f h) ≡ 0
+pub fault-each : (z : Sizes) (f : Numbers) (set h : ℕ) → faultTo z f set ≡ 0 → Member (z .n) set h
+    → faultOf z (withTarget f h) ≡ 0
 unfolding faultTo faultOf partyFits partyFitsTo
 fault-each z f set h e m =
     let q = passed-to z f set e in

@@ -3,7 +3,8 @@ use Prim.Native.Nat.{ℕ}
 use mathlib.Core.Bool.{Bool, cond}
 use mathlib.Core.List.{List, [], _∷_}
 use lib.Dec.{ltb, leb, eqb}
-use Rattle.base.specs.Refusals.{Test, test, Refusal, refusal, answerBy, refusedHost, refusedTick, refusedParty}
+use Rattle.base.specs.Refusals.{Test, test, Refusal, refusal, answerBy, refusedHost, refusedTick}
+use Rattle.base.specs.Refusals.{refusedParty}
 use Rattle.quorum.specs.Sets.{cellFits, isBelow, isOnly}
 use Rattle.message.specs.declared.Sizes.{Sizes}
 use Rattle.message.specs.declared.Numbers.{Numbers}
@@ -66,7 +67,9 @@ messageRefusals z f targetFits partyFits =
 
 -- a message to its own target: in a response that is the ballot's host, in any other the sender is
 unfoldable pub partyFits : Numbers → Bool
-partyFits f = cond (isResponse (f .kind)) (eqb (f .target) (f .ballot .host)) (eqb (f .sender) (f .ballot .host))
+partyFits f =
+    cond (isResponse (f .kind)) (eqb (f .target) (f .ballot .host))
+    (eqb (f .sender) (f .ballot .host))
 
 abbrev pub refusalsOf : Sizes → Numbers → List (Refusal Field)
 refusalsOf z f = messageRefusals z f (ltb (f .target) (z .n)) (partyFits f)
@@ -76,7 +79,8 @@ faultOf z f = answerBy (refusalsOf z f)
 
 -- a message to a set of receivers, its own target not looked at: the set names no host of n or more, and in a response none but the ballot's host
 unfoldable pub partyFitsTo : Numbers → ℕ → Bool
-partyFitsTo f set = cond (isResponse (f .kind)) (isOnly set (f .ballot .host)) (eqb (f .sender) (f .ballot .host))
+partyFitsTo f set =
+    cond (isResponse (f .kind)) (isOnly set (f .ballot .host)) (eqb (f .sender) (f .ballot .host))
 
 abbrev pub refusalsTo : Sizes → Numbers → ℕ → List (Refusal Field)
 refusalsTo z f set = messageRefusals z f (isBelow set (z .n)) (partyFitsTo f set)

@@ -8,7 +8,9 @@ use Rattle.message.specs.declared.HoldersEnd.{HoldersEnd}
 use Rattle.message.specs.declared.Head.{Head}
 use Rattle.message.specs.declared.Numbers.{Numbers}
 use Rattle.message.specs.declared.Message.{Message}
-use Rattle.message.specs.declared.Message.the-variants.{PrepareRequest, PrepareResponseEmpty, PrepareResponseLease, ProposeRequest, ProposeResponse, Learn}
+use Rattle.message.specs.declared.Message.the-variants.{PrepareRequest, PrepareResponseEmpty}
+use Rattle.message.specs.declared.Message.the-variants.{PrepareResponseLease, ProposeRequest}
+use Rattle.message.specs.declared.Message.the-variants.{ProposeResponse, Learn}
 
 -- ---- ticks and ends
 
@@ -78,14 +80,28 @@ abbrev pub headWith : ℕ → ℕ → Ballot → Head
 headWith s t b = record { sender = s; target = t; ballot = b }
 
 abbrev pub numbersWith : ℕ → Head → Ballot → ℕ → KeepersEnd → HoldersEnd → Numbers
-numbersWith k h a o e f = record { kind = k; sender = h .sender; target = h .target; ballot = h .ballot; accepted = a; owner = o; keepers = e; holders = f }
+numbersWith k h a o e f =
+    record {
+      kind = k;
+      sender = h .sender;
+      target = h .target;
+      ballot = h .ballot;
+      accepted = a;
+      owner = o;
+      keepers = e;
+      holders = f;
+    }
 
 -- the numbers of a message; those that its kind lacks are 0
 unfoldable pub numbersOf : Message → Numbers
 numbersOf (PrepareRequest h) = numbersWith prepareRequest h noBallot 0 noKeepers noHolders
-numbersOf (PrepareResponseEmpty h) = numbersWith prepareResponseEmpty h noBallot 0 noKeepers noHolders
-numbersOf (PrepareResponseLease m) = numbersWith prepareResponseLease (m .head) (m .accepted .ballot) (m .accepted .owner) (m .accepted .end) noHolders
-numbersOf (ProposeRequest m) = numbersWith proposeRequest (m .head) noBallot (m .owner) (m .end) noHolders
+numbersOf (PrepareResponseEmpty h) =
+    numbersWith prepareResponseEmpty h noBallot 0 noKeepers noHolders
+numbersOf (PrepareResponseLease m) =
+    numbersWith prepareResponseLease (m .head) (m .accepted .ballot) (m .accepted .owner)
+    (m .accepted .end) noHolders
+numbersOf (ProposeRequest m) =
+    numbersWith proposeRequest (m .head) noBallot (m .owner) (m .end) noHolders
 numbersOf (ProposeResponse h) = numbersWith proposeResponse h noBallot 0 noKeepers noHolders
 numbersOf (Learn m) = numbersWith learn (m .head) noBallot (m .owner) noKeepers (m .end)
 
@@ -97,14 +113,30 @@ unfoldable pub messageOf : Numbers → Message
 messageOf f =
     cond (eqb (f .kind) prepareRequest) (PrepareRequest (headOf f))
     (cond (eqb (f .kind) prepareResponseEmpty) (PrepareResponseEmpty (headOf f))
-    (cond (eqb (f .kind) prepareResponseLease) (PrepareResponseLease (record { head = headOf f; accepted = record { ballot = f .accepted; owner = f .owner; end = f .keepers } }))
-    (cond (eqb (f .kind) proposeRequest) (ProposeRequest (record { head = headOf f; owner = f .owner; end = f .keepers }))
+    (cond (eqb (f .kind) prepareResponseLease)
+    (PrepareResponseLease
+    (record {
+      head = headOf f;
+      accepted = record { ballot = f .accepted; owner = f .owner; end = f .keepers };
+    }))
+    (cond (eqb (f .kind) proposeRequest)
+    (ProposeRequest (record { head = headOf f; owner = f .owner; end = f .keepers }))
     (cond (eqb (f .kind) proposeResponse) (ProposeResponse (headOf f))
     (Learn (record { head = headOf f; owner = f .owner; end = f .holders }))))))
 
 -- the same to another target
 abbrev pub withTarget : Numbers → ℕ → Numbers
-withTarget f h = record { kind = f .kind; sender = f .sender; target = h; ballot = f .ballot; accepted = f .accepted; owner = f .owner; keepers = f .keepers; holders = f .holders }
+withTarget f h =
+    record {
+      kind = f .kind;
+      sender = f .sender;
+      target = h;
+      ballot = f .ballot;
+      accepted = f .accepted;
+      owner = f .owner;
+      keepers = f .keepers;
+      holders = f .holders;
+    }
 
 unfoldable pub addressedTo : Message → ℕ → Message
 addressedTo m h = messageOf (withTarget (numbersOf m) h)

@@ -36,7 +36,18 @@ pub record Span (hs : List Host) (n i low high : ℕ) : Type 0 where
   pub highest-is : clockAt hs highest ≡ high
 
 pub span-first : (hs : List Host) (n : ℕ) → 1 ≤ n → Span hs n 1 (clockAt hs 0) (clockAt hs 0)
-span-first hs n h = record { from = λ k b. first k b; to = λ k b. last k b; lowest = 0; lowest-in = h; lowest-is = refl; highest = 0; highest-in = h; highest-is = refl }
+span-first hs n h =
+    record {
+      from = λ k b. first k b;
+      to = λ k b.
+          last k b;
+      lowest = 0;
+      lowest-in = h;
+      lowest-is = refl;
+      highest = 0;
+      highest-in = h;
+      highest-is = refl;
+    }
   where
     first : (k : ℕ) → k < 1 → clockAt hs 0 ≤ clockAt hs k
     first k b = let e : k ≡ 0 = omega arith in rw e (omega arith)
@@ -47,9 +58,20 @@ span-first hs n h = record { from = λ k b. first k b; to = λ k b. last k b; lo
 pub span-order : (hs : List Host) (n i low high : ℕ) → 1 ≤ i → Span hs n i low high → low ≤ high
 span-order hs n i low high b p = omega (arith, p .from 0 b, p .to 0 b)
 
-pub span-next : (hs : List Host) (n i low high : ℕ) → i < n → Span hs n i low high → Span hs n (i + 1) (min low (clockAt hs i)) (max high (clockAt hs i))
+pub span-next : (hs : List Host) (n i low high : ℕ) → i < n → Span hs n i low high
+    → Span hs n (i + 1) (min low (clockAt hs i)) (max high (clockAt hs i))
 span-next hs n i low high b p =
-    record { from = λ k q. above k q (decLt k i); to = λ k q. below k q (decLt k i); lowest = lower .0; lowest-in = lower .1; lowest-is = lower .2; highest = upper .0; highest-in = upper .1; highest-is = upper .2 }
+    record {
+      from = λ k q. above k q (decLt k i);
+      to = λ k q.
+          below k q (decLt k i);
+      lowest = lower .0;
+      lowest-in = lower .1;
+      lowest-is = lower .2;
+      highest = upper .0;
+      highest-in = upper .1;
+      highest-is = upper .2;
+    }
   where
     above : (k : ℕ) → k < i + 1 → Dec (k < i) → min low (clockAt hs i) ≤ clockAt hs k
     above k q (yes r) = omega (arith, p .from k r)
@@ -69,18 +91,29 @@ span-next hs n i low high b p =
     upper : (k : ℕ) × (k < n) × (clockAt hs k ≡ max high (clockAt hs i))
     upper = go (decLt high (clockAt hs i))
       where
-        go : Dec (high < clockAt hs i) → (k : ℕ) × (k < n) × (clockAt hs k ≡ max high (clockAt hs i))
+        go : Dec (high < clockAt hs i) → (k : ℕ) × (k < n)
+            × (clockAt hs k ≡ max high (clockAt hs i))
         go (yes r) = (i, b, omega arith)
         go (no r) = (p .highest, p .highest-in, omega (arith, p .highest-is))
 
-pub span-clocks : (s : Settings) (hs : List Host) (low high : ℕ) → 1 ≤ s .n → s .n ≤ length hs → Span hs (s .n) (s .n) low high → leb (high - low) (s .spread) ≡ clocksOk s hs
+pub span-clocks : (s : Settings) (hs : List Host) (low high : ℕ) → 1 ≤ s .n → s .n ≤ length hs
+    → Span hs (s .n) (s .n) low high → leb (high - low) (s .spread) ≡ clocksOk s hs
 span-clocks s hs low high some few p = go (leb (high - low) (s .spread)) refl (clocksOk s hs) refl
   where
     near : high - low ≤ s .spread → clocksOk s hs ≡ true
-    near q = out-clocks s hs few (λ h k a b. omega (arith, p .to h a, p .from k b, span-order hs (s .n) (s .n) low high some p))
+    near q =
+        out-clocks s hs few
+        (λ h k a b.
+        omega (arith, p .to h a, p .from k b, span-order hs (s .n) (s .n) low high some p))
 
     apart : clocksOk s hs ≡ true → high - low ≤ s .spread
-    apart e = omega (arith, clocks-in s hs few e (p .highest) (p .lowest) (p .highest-in) (p .lowest-in), p .highest-is, p .lowest-is)
+    apart e =
+        omega (
+          arith,
+          clocks-in s hs few e (p .highest) (p .lowest) (p .highest-in) (p .lowest-in),
+          p .highest-is,
+          p .lowest-is,
+        )
 
     go : (x : Bool) → leb (high - low) (s .spread) ≡ x → (y : Bool) → clocksOk s hs ≡ y → x ≡ y
     go true e true f = refl
@@ -95,47 +128,67 @@ pub record Advancing (s : Settings) (d : ℕ) (start hosts : List Host) (g : ℕ
   pub long : length hosts ≡ length start
   pub within : g ≤ s .n
   pub moved : hosts ≡ eachHost g (λ h. advancedHost h d) start
-  pub rest : advancesRefusal s start d ≡ firstOf (map (λ h. advanceRefusal s h d) (drop g (take (s .n) start)))
+  pub rest : advancesRefusal s start d
+      ≡ firstOf (map (λ h. advanceRefusal s h d) (drop g (take (s .n) start)))
 
-pub advancing-first : (s : Settings) (d : ℕ) (start : List Host) → s .n ≤ length start → Advancing s d start start 0
+pub advancing-first : (s : Settings) (d : ℕ) (start : List Host) → s .n ≤ length start
+    → Advancing s d start start 0
 unfolding eachHost advancesRefusal
-advancing-first s d start few = record { few = few; long = refl; within = omega arith; moved = refl; rest = refl }
+advancing-first s d start few =
+    record { few = few; long = refl; within = omega arith; moved = refl; rest = refl }
 
-module _ {s : Settings} {d : ℕ} {start hosts : List Host} {g : ℕ} (p : Advancing s d start hosts g) where
-  -- a turn: the step of host g, which has not moved before
-  module _ (b : g < s .n) (step : Stepped) (q : step ≡ advanceOf s (getD hosts g blankHost) d) where
-    abbrev host : Host
-    host = getD start g blankHost
+module _ {s : Settings} {d : ℕ} {start hosts : List Host} {g : ℕ} (p : Advancing s d start hosts g)
+  where
+    -- a turn: the step of host g, which has not moved before
+    module _ (b : g < s .n) (step : Stepped) (q : step ≡ advanceOf s (getD hosts g blankHost) d)
+      where
+        abbrev host : Host
+        host = getD start g blankHost
 
-    step-is : step ≡ advanceOf s host d
-    step-is = q ∙ ap (λ (hs : List Host). advanceOf s (getD hs g blankHost) d) (p .moved) ∙ ap (λ (h : Host). advanceOf s h d) (each-above g (λ h. advancedHost h d) start g blankHost (le-refl g))
+        step-is : step ≡ advanceOf s host d
+        step-is = q ∙ ap (λ (hs : List Host). advanceOf s (getD hs g blankHost) d) (p .moved)
+            ∙ ap (λ (h : Host). advanceOf s h d)
+            (each-above g (λ h. advancedHost h d) start g blankHost (le-refl g))
 
-    answer-is : step .answer ≡ advanceRefusal s host d
-    answer-is = ap (λ (x : Stepped). x .answer) step-is ∙ lawful-advance s host d .number
+        answer-is : step .answer ≡ advanceRefusal s host d
+        answer-is = ap (λ (x : Stepped). x .answer) step-is ∙ lawful-advance s host d .number
 
-    rest-is : advancesRefusal s start d ≡ firstOf (step .answer ∷ map (λ h. advanceRefusal s h d) (drop (g + 1) (take (s .n) start)))
-    rest-is =
-        let there : g < length (take (s .n) start) = rw (length-take-le (s .n) start (p .few)) b in
-        p .rest ∙ ap (λ (hs : List Host). firstOf (map (λ h. advanceRefusal s h d) hs)) (from-place (take (s .n) start) g blankHost there)
-        ∙ rw (getD-take (s .n) start g blankHost b, answer-is)
+        rest-is : advancesRefusal s start d
+            ≡ firstOf
+            (step .answer ∷ map (λ h. advanceRefusal s h d) (drop (g + 1) (take (s .n) start)))
+        rest-is =
+            let there : g < length (take (s .n) start) =
+            rw (length-take-le (s .n) start (p .few)) b in
+            p .rest
+            ∙ ap (λ (hs : List Host). firstOf (map (λ h. advanceRefusal s h d) hs))
+            (from-place (take (s .n) start) g blankHost there)
+            ∙ rw (getD-take (s .n) start g blankHost b, answer-is)
 
-    pub advancing-refused : (step .answer ≡ done → ⊥) → advancesRefusal s start d ≡ step .answer
-    advancing-refused n = rest-is ∙ first-found (step .answer) _ n
+        pub advancing-refused : (step .answer ≡ done → ⊥) → advancesRefusal s start d ≡ step .answer
+        advancing-refused n = rest-is ∙ first-found (step .answer) _ n
 
-    pub advancing-next : step .answer ≡ done → Advancing s d start (set hosts g (step .host)) (g + 1)
-    advancing-next e =
-        let moves : step .host ≡ advancedHost host d = ap (λ (x : Stepped). x .host) (step-is ∙ lawful-advance s host d .carried-out (sym answer-is ∙ e)) in
-        record {
-          few = p .few;
-          long = length-set hosts g (step .host) ∙ p .long;
-          within = omega arith;
-          moved = rw (p .moved, moves) (sym (each-next g (λ h. advancedHost h d) start blankHost (omega (arith, b, p .few))));
-          rest = rest-is ∙ first-next (step .answer) _ e;
-        }
+        pub advancing-next : step .answer ≡ done
+            → Advancing s d start (set hosts g (step .host)) (g + 1)
+        advancing-next e =
+            let moves : step .host ≡ advancedHost host d =
+            ap (λ (x : Stepped). x .host)
+            (step-is ∙ lawful-advance s host d .carried-out (sym answer-is ∙ e)) in
+            record {
+              few = p .few;
+              long = length-set hosts g (step .host) ∙ p .long;
+              within = omega arith;
+              moved =
+                  rw (p .moved, moves)
+                  (sym (each-next g (λ h. advancedHost h d) start blankHost
+                  (omega (arith, b, p .few))));
+              rest = rest-is ∙ first-next (step .answer) _ e;
+            }
 
-  pub advancing-last : s .n ≤ g → (advancesRefusal s start d ≡ done) × (hosts ≡ advancedHosts s start d)
-  unfolding firstOf
-  advancing-last b =
-      let all : g ≡ s .n = omega (arith, b, p .within) in
-      let past : length (take (s .n) start) ≤ g = omega (arith, b, length-take-le (s .n) start (p .few)) in
-      (p .rest ∙ rw (drop-of-length-le (take (s .n) start) past), rw all at (p .moved))
+    pub advancing-last : s .n ≤ g → (advancesRefusal s start d ≡ done)
+        × (hosts ≡ advancedHosts s start d)
+    unfolding firstOf
+    advancing-last b =
+        let all : g ≡ s .n = omega (arith, b, p .within) in
+        let past : length (take (s .n) start) ≤ g =
+        omega (arith, b, length-take-le (s .n) start (p .few)) in
+        (p .rest ∙ rw (drop-of-length-le (take (s .n) start) past), rw all at (p .moved))

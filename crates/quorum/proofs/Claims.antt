@@ -10,11 +10,15 @@ use Rattle.quorum.specs.Claims.{Claims}
 use Rattle.quorum.proofs.Laws.{bit-le}
 use Rattle.quorum.proofs.Majorities.{majorities-meet, with-again, with-new, with-other}
 
-meets : (n s t : ℕ) → isBelow s n ≡ true → isBelow t n ≡ true → isMajority n s ≡ true → isMajority n t ≡ true
+meets : (n s t : ℕ) → isBelow s n ≡ true → isBelow t n ≡ true → isMajority n s ≡ true
+    → isMajority n t ≡ true
     → (h : ℕ) × Member n s h × Member n t h
 meets n s t a b p q =
-    let m = majorities-meet n s t (ltb-true s (2 ^ n) a) (ltb-true t (2 ^ n) b) p q in
-    (m .0, record { below = m .1; within = eq-eqb _ _ (m .2) }, record { below = m .1; within = eq-eqb _ _ (m .3) })
+    let m = majorities-meet n s t (ltb-true s (2 ^ n) a) (ltb-true t (2 ^ n) b) p q in (
+      m .0,
+      record { below = m .1; within = eq-eqb _ _ (m .2) },
+      record { below = m .1; within = eq-eqb _ _ (m .3) },
+    )
 
 -- a bit that is not 1 is 0
 absent : (set h : ℕ) → isIn set h ≡ false → bit set h ≡ 0

@@ -48,19 +48,25 @@ only-one set h i o m = go (eqb set 0) (eqb set (singleOf h)) refl refl o (ℕ-di
     one : bit set i ≡ 1
     one = eqb-true (bit set i) 1 m
 
-    go : (a b : Bool) → eqb set 0 ≡ a → eqb set (singleOf h) ≡ b → (a || b) ≡ true → Dec (h ≡ i) → i ≡ h
+    go : (a b : Bool) → eqb set 0 ≡ a → eqb set (singleOf h) ≡ b → (a || b) ≡ true → Dec (h ≡ i)
+        → i ≡ h
     go a b p q o (yes e) = sym e
     go true b p q o (no e) =
-        let z : bit set i ≡ 0 = ap (λ (s : ℕ). bit s i) (eqb-true set 0 p) ∙ ap (λ (x : ℕ). x % 2) (zero-div (2 ^ i)) in
+        let z : bit set i ≡ 0 = ap (λ (s : ℕ). bit s i) (eqb-true set 0 p)
+        ∙ ap (λ (x : ℕ). x % 2) (zero-div (2 ^ i)) in
         absurd (omega (arith, one))
     go false true p q o (no e) =
-        let z : bit set i ≡ 0 = ap (λ (s : ℕ). bit s i) (eqb-true set (singleOf h) q) ∙ single-other h i e in
+        let z : bit set i ≡ 0 = ap (λ (s : ℕ). bit s i) (eqb-true set (singleOf h) q)
+        ∙ single-other h i e in
         absurd (omega (arith, one))
     go false false p q o (no e) = true-false (sym o)
 
 -- ---- the list of a set's hosts
 
-pub members-step : (set h n : ℕ) → h < n → membersFrom set h (n - h) ≡ cond (isIn set h) (h ∷ membersFrom set (h + 1) (n - (h + 1))) (membersFrom set (h + 1) (n - (h + 1)))
+pub members-step : (set h n : ℕ) → h < n
+    → membersFrom set h (n - h)
+    ≡ cond (isIn set h) (h ∷ membersFrom set (h + 1) (n - (h + 1)))
+    (membersFrom set (h + 1) (n - (h + 1)))
 unfolding membersFrom
 members-step set h n k =
     let e : n - h ≡ suc (n - (h + 1)) = omega arith in
@@ -72,7 +78,8 @@ unfolding membersFrom All
 members-from n set h zero e = tt
 members-from n set h (suc k) e = go (isIn set h) refl (members-from n set (suc h) k (omega arith))
   where
-    go : (b : Bool) → isIn set h ≡ b → All (Member n set) (membersFrom set (suc h) k) → All (Member n set) (cond b (h ∷ membersFrom set (suc h) k) (membersFrom set (suc h) k))
+    go : (b : Bool) → isIn set h ≡ b → All (Member n set) (membersFrom set (suc h) k)
+        → All (Member n set) (cond b (h ∷ membersFrom set (suc h) k) (membersFrom set (suc h) k))
     go true p rest = (record { below = omega arith; within = p }, rest)
     go false p rest = rest
 
@@ -84,18 +91,23 @@ unfolding ones onesIn
 ones-zero = refl
 
 -- a set has as many hosts as ones
-members-ones : (set h k : ℕ) → set / 2 ^ h < 2 ^ k → length (membersFrom set h k) ≡ ones (set / 2 ^ h)
+members-ones : (set h k : ℕ) → set / 2 ^ h < 2 ^ k
+    → length (membersFrom set h k) ≡ ones (set / 2 ^ h)
 unfolding membersFrom
 members-ones set h zero e =
     let z : set / 2 ^ h ≡ 0 = omega arith in
     sym (ap ones z ∙ ones-zero)
 members-ones set h (suc k) e =
     let x = set / 2 ^ h in
-    let half : x / 2 ≡ set / 2 ^ suc h = shr-shr set h 1 ∙ ap (λ (j : ℕ). set / 2 ^ j) (omega arith) in
-    let rest : length (membersFrom set (suc h) k) ≡ ones (x / 2) = members-ones set (suc h) k (rw (← half) (omega arith)) ∙ ap ones (sym half) in
-    go (x % 2) refl (mod-lt x (lit< tt)) (length (membersFrom set (suc h) k)) rest (membersFrom set (suc h) k) refl
+    let half : x / 2 ≡ set / 2 ^ suc h = shr-shr set h 1
+    ∙ ap (λ (j : ℕ). set / 2 ^ j) (omega arith) in
+    let rest : length (membersFrom set (suc h) k) ≡ ones (x / 2) =
+    members-ones set (suc h) k (rw (← half) (omega arith)) ∙ ap ones (sym half) in
+    go (x % 2) refl (mod-lt x (lit< tt)) (length (membersFrom set (suc h) k)) rest
+    (membersFrom set (suc h) k) refl
   where
-    go : (b : ℕ) → set / 2 ^ h % 2 ≡ b → b < 2 → (r : ℕ) → r ≡ ones (set / 2 ^ h / 2) → (l : List ℕ) → length l ≡ r → length (cond (eqb (set / 2 ^ h % 2) 1) (h ∷ l) l) ≡ ones (set / 2 ^ h)
+    go : (b : ℕ) → set / 2 ^ h % 2 ≡ b → b < 2 → (r : ℕ) → r ≡ ones (set / 2 ^ h / 2) → (l : List ℕ)
+        → length l ≡ r → length (cond (eqb (set / 2 ^ h % 2) 1) (h ∷ l) l) ≡ ones (set / 2 ^ h)
     go zero p b r q l i = rw p (i ∙ q ∙ omega (arith, ones-step (set / 2 ^ h)))
     go (suc zero) p b r q l i = rw p (omega (arith, ones-step (set / 2 ^ h)))
     go (suc (suc j)) p b r q l i = absurd (omega arith)
@@ -131,7 +143,8 @@ members-none set h (suc k) e =
     rw (e, members-none set (suc h) k z)
 
 -- hosts beyond a set's reach add nothing
-members-more : (set h n k : ℕ) → set / 2 ^ (h + n) ≡ 0 → membersFrom set h (n + k) ≡ membersFrom set h n
+members-more : (set h n k : ℕ) → set / 2 ^ (h + n) ≡ 0
+    → membersFrom set h (n + k) ≡ membersFrom set h n
 unfolding membersFrom
 members-more set h zero k e =
     let a : h + 0 ≡ h = omega arith in
@@ -152,12 +165,17 @@ members-below set n m b l =
 members-lone : (t h k : ℕ) → h ≤ t → t < h + k → membersFrom (singleOf t) h k ≡ t ∷ []
 unfolding membersFrom
 members-lone t h zero a b = absurd (omega arith)
-members-lone t h (suc k) a b = go (ℕ-discrete t h) (λ d. members-lone t (suc h) k (omega arith) (omega arith))
+members-lone t h (suc k) a b =
+    go (ℕ-discrete t h) (λ d. members-lone t (suc h) k (omega arith) (omega arith))
   where
-    go : Dec (t ≡ h) → ((t ≡ h → ⊥) → membersFrom (singleOf t) (suc h) k ≡ t ∷ []) → cond (isIn (singleOf t) h) (h ∷ membersFrom (singleOf t) (suc h) k) (membersFrom (singleOf t) (suc h) k) ≡ t ∷ []
+    go : Dec (t ≡ h) → ((t ≡ h → ⊥) → membersFrom (singleOf t) (suc h) k ≡ t ∷ [])
+        → cond (isIn (singleOf t) h) (h ∷ membersFrom (singleOf t) (suc h) k)
+        (membersFrom (singleOf t) (suc h) k) ≡ t ∷ []
     go (yes e) f =
         let one : bit (singleOf t) h ≡ 1 = rw e (single-same h) in
-        let none = members-none (singleOf t) (suc h) k (div-eq-of-lt (pow-lt {i = t} {j = suc h} (omega arith))) in
+        let none =
+        members-none (singleOf t) (suc h) k
+        (div-eq-of-lt (pow-lt {i = t} {j = suc h} (omega arith))) in
         rw (one, none, e)
     go (no d) f = rw (single-other t h d) (f d)
 

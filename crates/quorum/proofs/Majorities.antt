@@ -12,7 +12,8 @@ use lib.Bits.{bitOr, or-zero-r, or-shr, or-step, or-lt, shifted-half, shifted-ev
 use lib.Count.{ones, onesIn, ones-step, ones-cat}
 use lib.Pow.{shr-shr, pow-pos, pow-lt, mod-pow-add}
 use borrow.Author.Tests.{leb-true, lt-leb}
-use Rattle.quorum.specs.Sets.{bit, singleOf, withHost, everyoneOf, othersOf, sizeOf, majoritySize, isMajority}
+use Rattle.quorum.specs.Sets.{bit, singleOf, withHost, everyoneOf, othersOf, sizeOf}
+use Rattle.quorum.specs.Sets.{majoritySize, isMajority}
 use Rattle.quorum.proofs.Laws.{bit-le, single-same, single-other}
 
 -- ---- sums by index
@@ -22,11 +23,14 @@ sum f zero = 0
 sum f (suc k) = sum f k + f k
 
 -- two sums that together exceed a third have a place where their parts do
-pub meet : (f g w : ℕ → ℕ) (n : ℕ) → sum w n < sum f n + sum g n → (i : ℕ) × (i < n) × (w i < f i + g i)
+pub meet : (f g w : ℕ → ℕ) (n : ℕ) → sum w n < sum f n + sum g n → (i : ℕ) × (i < n)
+    × (w i < f i + g i)
 meet f g w zero h = absurd (not-suc-le-zero h)
 meet f g w (suc k) h = go (decLt (w k) (f k + g k)) (meet f g w k)
   where
-    go : Dec (w k < f k + g k) → (sum w k < sum f k + sum g k → (i : ℕ) × (i < k) × (w i < f i + g i)) → (i : ℕ) × (i < suc k) × (w i < f i + g i)
+    go : Dec (w k < f k + g k)
+        → (sum w k < sum f k + sum g k → (i : ℕ) × (i < k) × (w i < f i + g i)) → (i : ℕ)
+        × (i < suc k) × (w i < f i + g i)
     go (yes p) e = (k, omega arith, p)
     go (no q) e =
         let r : (i : ℕ) × (i < k) × (w i < f i + g i) = e (omega arith) in
@@ -65,7 +69,8 @@ pub weighed-meet : (w : ℕ → ℕ) (n s t : ℕ)
     → (i : ℕ) × (i < n) × (bit s i ≡ 1) × (bit t i ≡ 1)
 weighed-meet w n s t h =
     let m = meet (λ i. bit s i * w i) (λ i. bit t i * w i) w n h in
-    let b = both (bit s (m .0)) (bit t (m .0)) (w (m .0)) (bit-le s (m .0)) (bit-le t (m .0)) (m .2) in
+    let b =
+    both (bit s (m .0)) (bit t (m .0)) (w (m .0)) (bit-le s (m .0)) (bit-le t (m .0)) (m .2) in
     (m .0, m .1, b .0, b .1)
   where
     both : (a b v : ℕ) → a < 2 → b < 2 → v < a * v + b * v → (a ≡ 1) × (b ≡ 1)
@@ -86,7 +91,8 @@ majority-half : (n : ℕ) → n < majoritySize n + majoritySize n
 majority-half n = omega arith
 
 -- two majorities of n hosts share a host: the weights are 1
-pub majorities-meet : (n s t : ℕ) → s < 2 ^ n → t < 2 ^ n → isMajority n s ≡ true → isMajority n t ≡ true → (i : ℕ) × (i < n) × (bit s i ≡ 1) × (bit t i ≡ 1)
+pub majorities-meet : (n s t : ℕ) → s < 2 ^ n → t < 2 ^ n → isMajority n s ≡ true
+    → isMajority n t ≡ true → (i : ℕ) × (i < n) × (bit s i ≡ 1) × (bit t i ≡ 1)
 unfolding isMajority
 majorities-meet n s t hs ht ms mt =
     weighed-meet (λ i. 1) n s t
@@ -111,13 +117,16 @@ nobody-short n = lt-leb (majoritySize n) 0 (omega arith)
 
 -- by the set's digits, the lowest first
 with-first : (s : ℕ) → withHost s 0 ≡ s / 2 * 2 + 1
-with-first s = or-step s 1 ∙ ap (λ (x : ℕ). x * 2 + max (s % 2) 1) (or-zero-r (s / 2)) ∙ omega (arith, bit-le s 0)
+with-first s = or-step s 1 ∙ ap (λ (x : ℕ). x * 2 + max (s % 2) 1) (or-zero-r (s / 2))
+    ∙ omega (arith, bit-le s 0)
 
 with-next : (s h : ℕ) → withHost s (suc h) ≡ withHost (s / 2) h * 2 + s % 2
 with-next s h =
-    let half : 2 ^ suc h / 2 ≡ 2 ^ h = rw (one-mul (2 ^ suc h), one-mul (2 ^ h)) at (shifted-half 1 h) in
+    let half : 2 ^ suc h / 2 ≡ 2 ^ h =
+    rw (one-mul (2 ^ suc h), one-mul (2 ^ h)) at (shifted-half 1 h) in
     let even : 2 ^ suc h % 2 ≡ 0 = rw (one-mul (2 ^ suc h)) at (shifted-even 1 h) in
-    or-step s (2 ^ suc h) ∙ ap₂ (λ (x y : ℕ). bitOr (s / 2) x * 2 + max (s % 2) y) half even ∙ omega arith
+    or-step s (2 ^ suc h) ∙ ap₂ (λ (x y : ℕ). bitOr (s / 2) x * 2 + max (s % 2) y) half even
+    ∙ omega arith
 
 bit-next : (s h : ℕ) → bit (s / 2) h ≡ bit s (suc h)
 bit-next s h = ap (λ (x : ℕ). x % 2) (shr-shr s 1 h ∙ ap (λ (k : ℕ). s / 2 ^ k) (omega arith))
@@ -135,10 +144,12 @@ ones-pair q b p = ones-cat 1 q b p ∙ ap (λ (x : ℕ). ones q + x) (ones-bit b
 -- a host that is not in the set makes it larger by one
 pub with-new : (s h : ℕ) → bit s h ≡ 0 → sizeOf (withHost s h) ≡ sizeOf s + 1
 with-new s zero e =
-    ap ones (with-first s) ∙ ones-pair (s / 2) 1 (omega arith) ∙ omega (arith, rw (div-one s) at e, ones-step s)
+    ap ones (with-first s) ∙ ones-pair (s / 2) 1 (omega arith)
+    ∙ omega (arith, rw (div-one s) at e, ones-step s)
 with-new s (suc h) e =
     let r = with-new (s / 2) h (bit-next s h ∙ e) in
-    ap ones (with-next s h) ∙ ones-pair (withHost (s / 2) h) (s % 2) (omega arith) ∙ omega (arith, r, ones-step s)
+    ap ones (with-next s h) ∙ ones-pair (withHost (s / 2) h) (s % 2) (omega arith)
+    ∙ omega (arith, r, ones-step s)
 
 max-lt : (a b : ℕ) → a < 2 → b < 2 → max a b < 2
 max-lt a b p q = omega arith
@@ -146,7 +157,8 @@ max-lt a b p q = omega arith
 or-bit : (a b i : ℕ) → bit (bitOr a b) i ≡ max (bit a i) (bit b i)
 or-bit a b i =
     ap (λ (x : ℕ). x % 2) (or-shr a b i ∙ or-step (a / 2 ^ i) (b / 2 ^ i))
-    ∙ digits-mod (bitOr (a / 2 ^ i / 2) (b / 2 ^ i / 2)) (max-lt (bit a i) (bit b i) (bit-le a i) (bit-le b i))
+    ∙ digits-mod (bitOr (a / 2 ^ i / 2) (b / 2 ^ i / 2))
+    (max-lt (bit a i) (bit b i) (bit-le a i) (bit-le b i))
 
 pub with-same : (s h : ℕ) → bit (withHost s h) h ≡ 1
 with-same s h = or-bit s (singleOf h) h ∙ omega (arith, single-same h, bit-le s h)

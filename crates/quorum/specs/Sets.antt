@@ -60,7 +60,8 @@ isMajority n set = leb (majoritySize n) (sizeOf set)
 -- those of the k hosts from h on that are in the set, rising
 unfoldable pub membersFrom : ℕ → ℕ → ℕ → List ℕ
 membersFrom set h zero = []
-membersFrom set h (suc k) = cond (isIn set h) (h ∷ membersFrom set (suc h) k) (membersFrom set (suc h) k)
+membersFrom set h (suc k) =
+    cond (isIn set h) (h ∷ membersFrom set (suc h) k) (membersFrom set (suc h) k)
 
 -- the hosts of a set, of n, rising
 abbrev pub members : ℕ → ℕ → List ℕ

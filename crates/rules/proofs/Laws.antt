@@ -19,12 +19,17 @@ use Rattle.rules.specs.declared.LastBallot.{LastBallot}
 use Rattle.rules.specs.declared.Holder.{Holder}
 use Rattle.rules.specs.declared.Named.{Named}
 use Rattle.rules.specs.declared.Value.{Value}
-use Rattle.rules.specs.Rules.{isWaiting, waitEnd, leaseOver, acceptedAt, holderOver, namedAt, ballotAt, isFresh, mayPromise, countsReply, hasEnded, replacesKept, higherOf, actsOn, value, ownIsLater, valueToPropose, isForbidden, mayAccept, afterAccept, namingBound, isNamable, namedBy}
+use Rattle.rules.specs.Rules.{isWaiting, waitEnd, leaseOver, acceptedAt, holderOver, namedAt}
+use Rattle.rules.specs.Rules.{ballotAt, isFresh, mayPromise, countsReply, hasEnded}
+use Rattle.rules.specs.Rules.{replacesKept, higherOf, actsOn, value, ownIsLater}
+use Rattle.rules.specs.Rules.{valueToPropose, isForbidden, mayAccept, afterAccept}
+use Rattle.rules.specs.Rules.{namingBound, isNamable, namedBy}
 
 -- ---- waiting, time and restart
 
 -- the wait outlasts every lease proposed before it: its ballot's tick is at most S above the clock, and its end at most T later
-pub wait-outlasts : (clock longest spread tick end : ℕ) → tick ≤ clock + spread → end ≤ tick + longest → end ≤ waitEnd clock longest spread
+pub wait-outlasts : (clock longest spread tick end : ℕ) → tick ≤ clock + spread
+    → end ≤ tick + longest → end ≤ waitEnd clock longest spread
 unfolding waitEnd
 wait-outlasts clock longest spread tick end a b = omega arith
 
@@ -47,7 +52,8 @@ pub lease-aged : (clock : ℕ) (a : Accepted) → LeaseAged clock a (acceptedAt 
 unfolding acceptedAt
 lease-aged clock Accepted.Nothing = empty
 lease-aged clock (Accepted.One l) =
-    by-test (LeaseAged clock (Accepted.One l)) (leaseOver clock l) _ _ (λ t. over l (leb-true (l .end .0) clock t)) (λ t. live l (leb-false (l .end .0) clock t))
+    by-test (LeaseAged clock (Accepted.One l)) (leaseOver clock l) _ _
+    (λ t. over l (leb-true (l .end .0) clock t)) (λ t. live l (leb-false (l .end .0) clock t))
 
 -- and so with a named holder
 pub data HolderAged (clock : ℕ) : Named → Named → Type 0 where
@@ -59,12 +65,14 @@ pub holder-aged : (clock : ℕ) (m : Named) → HolderAged clock m (namedAt cloc
 unfolding namedAt
 holder-aged clock Named.Nobody = nobody
 holder-aged clock (Named.One h) =
-    by-test (HolderAged clock (Named.One h)) (holderOver clock h) _ _ (λ t. dropped h (leb-true (h .end .0) clock t)) (λ t. stays h (leb-false (h .end .0) clock t))
+    by-test (HolderAged clock (Named.One h)) (holderOver clock h) _ _
+    (λ t. dropped h (leb-true (h .end .0) clock t)) (λ t. stays h (leb-false (h .end .0) clock t))
 
 -- ---- start
 
 -- a start's ballot is of its clock and its host
-pub ballot-clock : (clock number : ℕ) → (ballotAt clock number .tick ≡ clock) × (ballotAt clock number .host ≡ number)
+pub ballot-clock : (clock number : ℕ) → (ballotAt clock number .tick ≡ clock)
+    × (ballotAt clock number .host ≡ number)
 ballot-clock clock number = (refl, refl)
 
 -- a start's tick is above the last ballot's
@@ -91,7 +99,8 @@ unfolding hasEnded
 discarded clock l h = le-leb (l .end .0) clock h
 
 -- at a tie the earlier reply is kept
-pub earlier-kept : (a b : Lease) → a .ballot ≡ b .ballot → higherOf (Accepted.One a) (Accepted.One b) ≡ Accepted.One a
+pub earlier-kept : (a b : Lease) → a .ballot ≡ b .ballot
+    → higherOf (Accepted.One a) (Accepted.One b) ≡ Accepted.One a
 unfolding higherOf
 earlier-kept a b e = rw (e, above-itself (b .ballot))
 
@@ -109,55 +118,70 @@ pub higher-kept : (a b : Accepted) → Higher a b (higherOf a b)
 unfolding higherOf
 higher-kept Accepted.Nothing b = later tt
 higher-kept (Accepted.One a) Accepted.Nothing = earlier tt
-higher-kept (Accepted.One a) (Accepted.One b) = by-test (Higher (Accepted.One a) (Accepted.One b)) (replacesKept a b) _ _ (λ t. later (above-one-way _ _ t)) (λ t. earlier t)
+higher-kept (Accepted.One a) (Accepted.One b) =
+    by-test (Higher (Accepted.One a) (Accepted.One b)) (replacesKept a b) _ _
+    (λ t. later (above-one-way _ _ t)) (λ t. earlier t)
 
 -- a round acts on the one reply that makes its set a majority
-pub acts-majority : (n before after : ℕ) → actsOn n before after ≡ true → (isMajority n after ≡ true) × (isMajority n before ≡ false)
+pub acts-majority : (n before after : ℕ) → actsOn n before after ≡ true
+    → (isMajority n after ≡ true) × (isMajority n before ≡ false)
 unfolding actsOn
 acts-majority n before after e = go (isMajority n before) refl e
   where
-    go : (t : Bool) → isMajority n before ≡ t → cond t false (isMajority n after) ≡ true → (isMajority n after ≡ true) × (isMajority n before ≡ false)
+    go : (t : Bool) → isMajority n before ≡ t → cond t false (isMajority n after) ≡ true
+        → (isMajority n after ≡ true) × (isMajority n before ≡ false)
     go true p q = true-false (sym q)
     go false p q = (q, p)
 
 -- where there was none before, a round acts exactly on a majority
-pub acts-first : (n before after : ℕ) → isMajority n before ≡ false → actsOn n before after ≡ isMajority n after
+pub acts-first : (n before after : ℕ) → isMajority n before ≡ false
+    → actsOn n before after ≡ isMajority n after
 unfolding actsOn
 acts-first n before after e = rw e
 
 -- the lease to propose is one's own where none was kept, where the kept one has ended, or where it is one's own and ends no later; else the kept one
 pub data ToPropose (number clock : ℕ) (own : KeepersEnd) : Accepted → Value → Type 0 where
   free : ToPropose number clock own Accepted.Nothing (value number own)
-  ended : (l : Lease) → l .end .0 ≤ clock → ToPropose number clock own (Accepted.One l) (value number own)
-  renewed : (l : Lease) → l .owner ≡ number → l .end .0 ≤ own .0 → ToPropose number clock own (Accepted.One l) (value number own)
+  ended : (l : Lease) → l .end .0 ≤ clock
+      → ToPropose number clock own (Accepted.One l) (value number own)
+  renewed : (l : Lease) → l .owner ≡ number → l .end .0 ≤ own .0
+      → ToPropose number clock own (Accepted.One l) (value number own)
   kept : (l : Lease) → ToPropose number clock own (Accepted.One l) (value (l .owner) (l .end))
 
-pub to-propose : (number clock : ℕ) (own : KeepersEnd) (a : Accepted) → ToPropose number clock own a (valueToPropose number clock own a)
+pub to-propose : (number clock : ℕ) (own : KeepersEnd) (a : Accepted)
+    → ToPropose number clock own a (valueToPropose number clock own a)
 unfolding valueToPropose
 to-propose number clock own Accepted.Nothing = free
 to-propose number clock own (Accepted.One l) =
-    by-test (ToPropose number clock own (Accepted.One l)) (leb (l .end .0) clock) _ _ (λ t. ended l (leb-true (l .end .0) clock t))
+    by-test (ToPropose number clock own (Accepted.One l)) (leb (l .end .0) clock) _ _
+    (λ t. ended l (leb-true (l .end .0) clock t))
     (λ _. by-test (ToPropose number clock own (Accepted.One l)) (eqb (l .owner) number) _ _
-    (λ o. by-test (ToPropose number clock own (Accepted.One l)) (ownIsLater own l) _ _ (λ t. renewed l (eqb-true (l .owner) number o) (leb-true (l .end .0) (own .0) t)) (λ _. kept l))
+    (λ o.
+    by-test (ToPropose number clock own (Accepted.One l)) (ownIsLater own l) _ _
+    (λ t. renewed l (eqb-true (l .owner) number o) (leb-true (l .end .0) (own .0) t)) (λ _. kept l))
     (λ _. kept l))
 
 -- ---- propose request
 
 -- an accepted proposal's end is to come
-pub accept-live : (p : Promised) (clock : ℕ) (l : Lease) → mayAccept p clock l ≡ true → clock < l .end .0
+pub accept-live : (p : Promised) (clock : ℕ) (l : Lease) → mayAccept p clock l ≡ true
+    → clock < l .end .0
 unfolding mayAccept
 accept-live p clock l e = go (leb (l .end .0) clock) refl e
   where
-    go : (t : Bool) → leb (l .end .0) clock ≡ t → cond t false (not (isForbidden p (l .ballot))) ≡ true → clock < l .end .0
+    go : (t : Bool) → leb (l .end .0) clock ≡ t
+        → cond t false (not (isForbidden p (l .ballot))) ≡ true → clock < l .end .0
     go true p q = true-false (sym q)
     go false p q = leb-false (l .end .0) clock p
 
 -- whatever is forbidden is not accepted
-accept-allowed : (p : Promised) (clock : ℕ) (l : Lease) → mayAccept p clock l ≡ true → isForbidden p (l .ballot) ≡ false
+accept-allowed : (p : Promised) (clock : ℕ) (l : Lease) → mayAccept p clock l ≡ true
+    → isForbidden p (l .ballot) ≡ false
 unfolding mayAccept
 accept-allowed p clock l e = go (leb (l .end .0) clock) e
   where
-    go : (t : Bool) → cond t false (not (isForbidden p (l .ballot))) ≡ true → isForbidden p (l .ballot) ≡ false
+    go : (t : Bool) → cond t false (not (isForbidden p (l .ballot))) ≡ true
+        → isForbidden p (l .ballot) ≡ false
     go true q = true-false (sym q)
     go false q = not-true (isForbidden p (l .ballot)) q
 
@@ -167,18 +191,22 @@ unfolding isForbidden
 allowed-not-below p b e = e
 
 -- an accepted proposal's ballot is not below the promise
-pub accept-not-below : (p : Ballot) (clock : ℕ) (l : Lease) → mayAccept (Promised.To p) clock l ≡ true → isAbove p (l .ballot) ≡ false
-accept-not-below p clock l e = allowed-not-below p (l .ballot) (accept-allowed (Promised.To p) clock l e)
+pub accept-not-below : (p : Ballot) (clock : ℕ) (l : Lease)
+    → mayAccept (Promised.To p) clock l ≡ true → isAbove p (l .ballot) ≡ false
+accept-not-below p clock l e =
+    allowed-not-below p (l .ballot) (accept-allowed (Promised.To p) clock l e)
 
 -- whoever accepts has promised that ballot, and holds that lease
-pub accept-promises : (l : Lease) → (afterAccept l .promised ≡ Promised.To (l .ballot)) × (afterAccept l .accepted ≡ Accepted.One l)
+pub accept-promises : (l : Lease) → (afterAccept l .promised ≡ Promised.To (l .ballot))
+    × (afterAccept l .accepted ≡ Accepted.One l)
 unfolding afterAccept
 accept-promises l = (refl, refl)
 
 -- ---- propose response and learn
 
 -- a lease that is named has its holder's end to come, and the two ends are S apart
-pub namable : (clock spread : ℕ) (e : KeepersEnd) → isNamable clock spread e ≡ true → (clock < toHolders e spread .0) × (toHolders e spread .0 + spread ≡ e .0)
+pub namable : (clock spread : ℕ) (e : KeepersEnd) → isNamable clock spread e ≡ true
+    → (clock < toHolders e spread .0) × (toHolders e spread .0 + spread ≡ e .0)
 namable clock spread e h =
     let l = ltb-true (namingBound clock spread) (e .0) h in
     (omega arith, omega arith)
@@ -186,10 +214,14 @@ namable clock spread e h =
 -- a holder is named where nobody was, or gives way to a higher ballot
 pub data Naming (h : Holder) : Named → Named → Type 0 where
   first : Naming h Named.Nobody (Named.One h)
-  replaced : (k : Holder) → isAbove (h .ballot) (k .ballot) ≡ true → Naming h (Named.One k) (Named.One h)
-  unmoved : (k : Holder) → isAbove (h .ballot) (k .ballot) ≡ false → Naming h (Named.One k) (Named.One k)
+  replaced : (k : Holder) → isAbove (h .ballot) (k .ballot) ≡ true
+      → Naming h (Named.One k) (Named.One h)
+  unmoved : (k : Holder) → isAbove (h .ballot) (k .ballot) ≡ false
+      → Naming h (Named.One k) (Named.One k)
 
 pub naming : (h : Holder) (m : Named) → Naming h m (namedBy m h)
 unfolding namedBy
 naming h Named.Nobody = first
-naming h (Named.One k) = by-test (Naming h (Named.One k)) (isAbove (h .ballot) (k .ballot)) _ _ (λ t. replaced k t) (λ t. unmoved k t)
+naming h (Named.One k) =
+    by-test (Naming h (Named.One k)) (isAbove (h .ballot) (k .ballot)) _ _ (λ t. replaced k t)
+    (λ t. unmoved k t)

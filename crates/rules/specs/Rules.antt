@@ -77,7 +77,8 @@ replacesKept a b = isAbove (b .ballot) (a .ballot)
 unfoldable pub higherOf : Accepted → Accepted → Accepted
 higherOf Accepted.Nothing reply = reply
 higherOf (Accepted.One a) Accepted.Nothing = Accepted.One a
-higherOf (Accepted.One a) (Accepted.One b) = cond (replacesKept a b) (Accepted.One b) (Accepted.One a)
+higherOf (Accepted.One a) (Accepted.One b) =
+    cond (replacesKept a b) (Accepted.One b) (Accepted.One a)
 
 -- 'when the count reaches a majority': the set is one, and was none before
 unfoldable pub actsOn : ℕ → ℕ → ℕ → Bool

@@ -18,7 +18,8 @@ use Rattle.message.specs.Message.{numbersOf, addressedTo}
 use Rattle.message.specs.Faults.{faultOf}
 use Rattle.slots.specs.declared.Content.{Content}
 use Rattle.slots.specs.declared.Slot.{Slot}
-use Rattle.slots.specs.Slots.{slotCount, emptySlot, slotWith, noMessages, isEmpty, contentOk, slotOk, slotsOk, empties, lowest, placed, placedEach, freed}
+use Rattle.slots.specs.Slots.{slotCount, emptySlot, slotWith, noMessages, isEmpty, contentOk}
+use Rattle.slots.specs.Slots.{slotOk, slotsOk, empties, lowest, placed, placedEach, freed}
 use Rattle.slots.specs.Parts.{slotAfter, gainedBy}
 
 -- ---- as many slots
@@ -27,10 +28,12 @@ pub length-placed : (ss : List Slot) (m : Message) → length (placed ss m) ≡ 
 unfolding placed
 length-placed ss m = length-set ss (lowest ss) (slotWith m)
 
-pub length-placed-each : (ss : List Slot) (m : Message) (hs : List ℕ) → length (placedEach ss m hs) ≡ length ss
+pub length-placed-each : (ss : List Slot) (m : Message) (hs : List ℕ)
+    → length (placedEach ss m hs) ≡ length ss
 unfolding placedEach
 length-placed-each ss m [] = refl
-length-placed-each ss m (h ∷ hs) = length-placed-each (placed ss (addressedTo m h)) m hs ∙ length-placed ss (addressedTo m h)
+length-placed-each ss m (h ∷ hs) = length-placed-each (placed ss (addressedTo m h)) m hs
+    ∙ length-placed ss (addressedTo m h)
 
 pub length-freed : (ss : List Slot) (i : ℕ) → length (freed ss i) ≡ length ss
 length-freed ss i = length-set ss i emptySlot
@@ -42,24 +45,29 @@ freed-counts [] i h = absurd (omega arith)
 freed-counts (s ∷ ss) zero h = omega arith
 freed-counts (s ∷ ss) (suc i) h = go (isEmpty (s .content)) (freed-counts ss i (omega arith))
   where
-    go : (b : Bool) → 1 ≤ empties (freed ss i) → 1 ≤ cond b (suc (empties (freed ss i))) (empties (freed ss i))
+    go : (b : Bool) → 1 ≤ empties (freed ss i)
+        → 1 ≤ cond b (suc (empties (freed ss i))) (empties (freed ss i))
     go true p = omega arith
     go false p = p
 
 -- what an event gains of its slot is counted with the empty slots before it
 pub gained-counts : (frees : Bool) (ss : List Slot) (i : ℕ) → i < length ss
-    → empties (set ss i (slotAfter frees (getD ss i emptySlot))) ≡ gainedBy frees (getD ss i emptySlot .content) + empties ss
+    → empties (set ss i (slotAfter frees (getD ss i emptySlot)))
+    ≡ gainedBy frees (getD ss i emptySlot .content) + empties ss
 unfolding slotAfter empties isEmpty gainedBy
 gained-counts frees [] i h = absurd (omega arith)
 gained-counts frees (s ∷ ss) zero h = go frees (s .content) s refl
   where
     go : (b : Bool) (t : Content) (x : Slot) → x .content ≡ t
-        → cond (isEmpty (cond b emptySlot x .content)) (suc (empties ss)) (empties ss) ≡ gainedBy b t + cond (isEmpty t) (suc (empties ss)) (empties ss)
+        → cond (isEmpty (cond b emptySlot x .content)) (suc (empties ss)) (empties ss)
+        ≡ gainedBy b t + cond (isEmpty t) (suc (empties ss)) (empties ss)
     go true Content.Empty x e = omega arith
     go true (Content.One m) x e = omega arith
     go false Content.Empty x e = rw e (omega arith)
     go false (Content.One m) x e = rw e (omega arith)
-gained-counts frees (s ∷ ss) (suc i) h = go (isEmpty (s .content)) _ (gainedBy frees (getD ss i emptySlot .content)) _ (gained-counts frees ss i (omega arith))
+gained-counts frees (s ∷ ss) (suc i) h =
+    go (isEmpty (s .content)) _ (gainedBy frees (getD ss i emptySlot .content)) _
+    (gained-counts frees ss i (omega arith))
   where
     go : (b : Bool) (x y z : ℕ) → x ≡ y + z → cond b (suc x) x ≡ y + cond b (suc z) z
     go true x y z e = omega (arith, e)
@@ -75,20 +83,26 @@ not-lowest : (ss : List Slot) (j : ℕ) → Filled ss j → j ≡ lowest ss → 
 unfolding lowest isEmpty
 not-lowest [] j f q = true-false f
 not-lowest (s ∷ ss) zero f q = let n : 0 ≡ suc (lowest ss) = rw f at q in absurd (omega arith)
-not-lowest (s ∷ ss) (suc j) f q = by-test (λ (k : ℕ). suc j ≡ k → ⊥) (isEmpty (s .content)) 0 (suc (lowest ss)) (λ _ e. omega (arith, e)) (λ _ e. not-lowest ss j f (omega (arith, e))) q
+not-lowest (s ∷ ss) (suc j) f q =
+    by-test (λ (k : ℕ). suc j ≡ k → ⊥) (isEmpty (s .content)) 0 (suc (lowest ss))
+    (λ _ e. omega (arith, e)) (λ _ e. not-lowest ss j f (omega (arith, e))) q
 
-placed-leaves : (ss : List Slot) (m : Message) (j : ℕ) → Filled ss j → getD (placed ss m) j emptySlot ≡ getD ss j emptySlot
+placed-leaves : (ss : List Slot) (m : Message) (j : ℕ) → Filled ss j
+    → getD (placed ss m) j emptySlot ≡ getD ss j emptySlot
 unfolding placed
 placed-leaves ss m j f = getD-set-other ss (lowest ss) j (slotWith m) emptySlot (not-lowest ss j f)
 
-pub placed-each-leaves : (ss : List Slot) (m : Message) (hs : List ℕ) (j : ℕ) → Filled ss j → getD (placedEach ss m hs) j emptySlot ≡ getD ss j emptySlot
+pub placed-each-leaves : (ss : List Slot) (m : Message) (hs : List ℕ) (j : ℕ) → Filled ss j
+    → getD (placedEach ss m hs) j emptySlot ≡ getD ss j emptySlot
 unfolding placedEach
 placed-each-leaves ss m [] j f = refl
 placed-each-leaves ss m (h ∷ hs) j f =
     let e = placed-leaves ss (addressedTo m h) j f in
-    placed-each-leaves (placed ss (addressedTo m h)) m hs j (ap (λ (s : Slot). isEmpty (s .content)) e ∙ f) ∙ e
+    placed-each-leaves (placed ss (addressedTo m h)) m hs j
+    (ap (λ (s : Slot). isEmpty (s .content)) e ∙ f) ∙ e
 
-pub freed-leaves : (ss : List Slot) (i j : ℕ) → (j ≡ i → ⊥) → getD (freed ss i) j emptySlot ≡ getD ss j emptySlot
+pub freed-leaves : (ss : List Slot) (i j : ℕ) → (j ≡ i → ⊥)
+    → getD (freed ss i) j emptySlot ≡ getD ss j emptySlot
 freed-leaves ss i j d = getD-set-other ss i j emptySlot emptySlot d
 
 -- ---- what holds of each message under way
@@ -103,12 +117,14 @@ CarriedBy P s = Carries P (s .content)
 unfoldable pub Holds : (Message → Type 0) → List Slot → Type 0
 Holds P ss = All (CarriedBy P) ss
 
-carries-map : (P Q : Message → Type 0) → ((m : Message) → P m → Q m) → (c : Content) → Carries P c → Carries Q c
+carries-map : (P Q : Message → Type 0) → ((m : Message) → P m → Q m) → (c : Content) → Carries P c
+    → Carries Q c
 unfolding Carries
 carries-map P Q f Content.Empty p = tt
 carries-map P Q f (Content.One m) p = f m p
 
-pub holds-map : (P Q : Message → Type 0) (ss : List Slot) → ((m : Message) → P m → Q m) → Holds P ss → Holds Q ss
+pub holds-map : (P Q : Message → Type 0) (ss : List Slot) → ((m : Message) → P m → Q m) → Holds P ss
+    → Holds Q ss
 unfolding Holds
 holds-map P Q ss f p = all-map ss (λ s q. carries-map P Q f (s .content) q) p
 
@@ -116,27 +132,34 @@ pub holds-none : (P : Message → Type 0) → Holds P noMessages
 unfolding Holds Carries
 holds-none P = all-same (CarriedBy P) slotCount emptySlot tt
 
-pub holds-freed : (P : Message → Type 0) (ss : List Slot) (i : ℕ) → Holds P ss → Holds P (freed ss i)
+pub holds-freed : (P : Message → Type 0) (ss : List Slot) (i : ℕ) → Holds P ss
+    → Holds P (freed ss i)
 unfolding Holds Carries
 holds-freed P ss i p = all-set (CarriedBy P) ss i emptySlot p tt
 
-pub holds-placed : (P : Message → Type 0) (ss : List Slot) (m : Message) → Holds P ss → P m → Holds P (placed ss m)
+pub holds-placed : (P : Message → Type 0) (ss : List Slot) (m : Message) → Holds P ss → P m
+    → Holds P (placed ss m)
 unfolding Holds Carries placed
 holds-placed P ss m p q = all-set (CarriedBy P) ss (lowest ss) (slotWith m) p q
 
-pub holds-placed-each : (P : Message → Type 0) (ss : List Slot) (m : Message) (hs : List ℕ) → Holds P ss → All (λ h. P (addressedTo m h)) hs → Holds P (placedEach ss m hs)
+pub holds-placed-each : (P : Message → Type 0) (ss : List Slot) (m : Message) (hs : List ℕ)
+    → Holds P ss → All (λ h. P (addressedTo m h)) hs → Holds P (placedEach ss m hs)
 unfolding placedEach All
 holds-placed-each P ss m [] p q = p
-holds-placed-each P ss m (h ∷ hs) p q = holds-placed-each P (placed ss (addressedTo m h)) m hs (holds-placed P ss (addressedTo m h) p (q .0)) (q .1)
+holds-placed-each P ss m (h ∷ hs) p q =
+    holds-placed-each P (placed ss (addressedTo m h)) m hs
+    (holds-placed P ss (addressedTo m h) p (q .0)) (q .1)
 
 carried : (P : Message → Type 0) (c : Content) (m : Message) → Carries P c → c ≡ Content.One m → P m
 unfolding Carries
 carried P c m p e = rw e at p
 
 -- of the message in a slot
-pub holds-at : (P : Message → Type 0) (ss : List Slot) (i : ℕ) (m : Message) → Holds P ss → getD ss i emptySlot .content ≡ Content.One m → P m
+pub holds-at : (P : Message → Type 0) (ss : List Slot) (i : ℕ) (m : Message) → Holds P ss
+    → getD ss i emptySlot .content ≡ Content.One m → P m
 unfolding Holds Carries
-holds-at P ss i m p e = carried P (getD ss i emptySlot .content) m (all-at (CarriedBy P) ss i emptySlot p tt) e
+holds-at P ss i m p e =
+    carried P (getD ss i emptySlot .content) m (all-at (CarriedBy P) ss i emptySlot p tt) e
 
 -- ---- slots within their limits: writing refuses no message under way
 
@@ -153,16 +176,20 @@ unfolding contentOk Carries
 out-content z Content.Empty p = refl
 out-content z (Content.One m) p = eq-eqb (faultOf z (numbersOf m)) done p
 
-slots-from : (z : Sizes) (i : ℕ) (ss : List Slot) → every (slotOk z) i ss ≡ true → Holds (Sendable z) ss
+slots-from : (z : Sizes) (i : ℕ) (ss : List Slot) → every (slotOk z) i ss ≡ true
+    → Holds (Sendable z) ss
 unfolding every Holds All
 slots-from z i [] e = tt
-slots-from z i (s ∷ ss) e = let p = both (contentOk z (s .content)) (every (slotOk z) (suc i) ss) e in (content-in z (s .content) (p .0), slots-from z (suc i) ss (p .1))
+slots-from z i (s ∷ ss) e =
+    let p = both (contentOk z (s .content)) (every (slotOk z) (suc i) ss) e in
+    (content-in z (s .content) (p .0), slots-from z (suc i) ss (p .1))
 
 pub slots-in : (z : Sizes) (ss : List Slot) → slotsOk z ss ≡ true → Holds (Sendable z) ss
 unfolding slotsOk
 slots-in z ss e = slots-from z 0 ss e
 
-out-from : (z : Sizes) (i : ℕ) (ss : List Slot) → Holds (Sendable z) ss → every (slotOk z) i ss ≡ true
+out-from : (z : Sizes) (i : ℕ) (ss : List Slot) → Holds (Sendable z) ss
+    → every (slotOk z) i ss ≡ true
 unfolding every Holds All
 out-from z i [] p = refl
 out-from z i (s ∷ ss) p = rw (out-content z (s .content) (p .0)) (out-from z (suc i) ss (p .1))

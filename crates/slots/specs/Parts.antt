@@ -28,5 +28,7 @@ countedWith count held = cond (isEmpty (held .content)) (suc count) count
 unfoldable pub turnOf : Message → ℕ → ℕ → ℕ → Slot → Turn
 turnOf m receivers h j held =
     cond (isIn receivers h)
-    (cond (isEmpty (held .content)) (record { slot = slotWith (addressedTo m h); host = h + 1; at = j + 1 }) (record { slot = held; host = h; at = j + 1 }))
+    (cond (isEmpty (held .content))
+    (record { slot = slotWith (addressedTo m h); host = h + 1; at = j + 1 })
+    (record { slot = held; host = h; at = j + 1 }))
     (record { slot = held; host = h + 1; at = j })

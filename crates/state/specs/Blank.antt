@@ -10,7 +10,14 @@ use Rattle.state.specs.declared.Round.{Round}
 use Rattle.state.specs.declared.State.{State}
 
 abbrev pub blankState : State
-blankState = record { promised = Promised.Nothing; accepted = Accepted.Nothing; last = LastBallot.Never; round = Round.Idle; named = Named.Nobody }
+blankState =
+    record {
+      promised = Promised.Nothing;
+      accepted = Accepted.Nothing;
+      last = LastBallot.Never;
+      round = Round.Idle;
+      named = Named.Nobody;
+    }
 
 unfoldable pub noPromise : Promised → Bool
 noPromise Promised.Nothing = true

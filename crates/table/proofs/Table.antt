@@ -6,31 +6,81 @@ use Rattle.base.specs.Refusals.{firstOf}
 use Rattle.base.specs.Lists.{every, allOf}
 use Rattle.wire.specs.Wire.{le, numberAt, total, numbersAt, packed}
 use Rattle.quorum.specs.Sets.{isMajority, membersFrom}
-use Rattle.message.specs.Message.{lastTick, lastEnd, isAbove, knownKind, isResponse, numbersOf, messageOf, addressedTo}
+use Rattle.message.specs.Message.{lastTick, lastEnd, isAbove, knownKind, isResponse, numbersOf}
+use Rattle.message.specs.Message.{messageOf, addressedTo}
 use Rattle.message.specs.Faults.{partyFits, faultOf, partyFitsTo, faultTo}
 use Rattle.layout.specs.Layout.{moreOf, kindLength, bytesOf, valueIn, numbersIn}
 use Rattle.frame.specs.Reading.{readAnswer, readOf}
 use Rattle.frame.specs.Writing.{frameOf, writeAnswer, framesIn, framesOf, answerTo}
 use Rattle.frame_c.specs.Interface.{handedNumbers, handedAnswer, handedAnswerTo}
-use Rattle.rules.specs.Rules.{waitEnd, acceptedAt, namedAt, isFresh, mayPromise, hasEnded, higherOf, actsOn, valueToPropose, isForbidden, mayAccept, afterAccept, namedBy}
-use Rattle.state.specs.StateLimits.{lastLongest, settingsOk, durationOk, ballotOk, leaseOk, acceptedOk, promisedOk, lastOk, namedOk, askingOk, proposingOk, roundOk, stateOk}
+use Rattle.rules.specs.Rules.{waitEnd, acceptedAt, namedAt, isFresh, mayPromise, hasEnded, higherOf}
+use Rattle.rules.specs.Rules.{actsOn, valueToPropose, isForbidden, mayAccept, afterAccept, namedBy}
+use Rattle.state.specs.StateLimits.{lastLongest, settingsOk, durationOk, ballotOk, leaseOk}
+use Rattle.state.specs.StateLimits.{acceptedOk, promisedOk, lastOk, namedOk, askingOk, proposingOk}
+use Rattle.state.specs.StateLimits.{roundOk, stateOk}
 use Rattle.state.specs.Ageing.{agedAt}
 use Rattle.state.specs.Blank.{noPromise, noLease, noTick, noRound, noHolder, isBlankState}
-use Rattle.host.specs.Steps.{lastWait, hostOk, advanceRefusal, advancedHost, advanceOf, restartRefusal, restartedHost, restartOf, startRefusal, onStart, startOf, responseWith, onPrepareRequest, askingAfter, onMajority, onCountedReply, onReply, onPrepareResponse, onProposeRequest, proposingAfter, onNaming, onChosen, onCountedVote, onVote, onProposeResponse, onLearn, onMessage, onDelivery, receiveRefusal, receiveOf}
-use Rattle.places.specs.Places.{placeOk, stateAtOk, placesOk, statesOk, clocksOk, newHost, eachHost, advancesRefusal}
+use Rattle.host.specs.Steps.{lastWait, hostOk, advanceRefusal, advancedHost, advanceOf}
+use Rattle.host.specs.Steps.{restartRefusal, restartedHost, restartOf, startRefusal, onStart}
+use Rattle.host.specs.Steps.{startOf, responseWith, onPrepareRequest, askingAfter, onMajority}
+use Rattle.host.specs.Steps.{onCountedReply, onReply, onPrepareResponse, onProposeRequest}
+use Rattle.host.specs.Steps.{proposingAfter, onNaming, onChosen, onCountedVote, onVote}
+use Rattle.host.specs.Steps.{onProposeResponse, onLearn, onMessage, onDelivery, receiveRefusal}
+use Rattle.host.specs.Steps.{receiveOf}
+use Rattle.places.specs.Places.{placeOk, stateAtOk, placesOk, statesOk, clocksOk, newHost, eachHost}
+use Rattle.places.specs.Places.{advancesRefusal}
 use Rattle.slots.specs.Slots.{isEmpty, contentOk, slotsOk, empties, lowest, placed, placedEach}
 use Rattle.cell.specs.CellLimits.{cellOk}
-use Rattle.cell.specs.Events.{messagesIn, sentTo, stepped, openingRefusal, openedWith, openingOf, advanceAllRefusal, advancedAll, advancedOne, advanceOneRefusal, startAtRefusal, deliverFull, deliverRefusal, delivered, loseRefusal, repeatRefusal, repeated, restartAtRefusal, refusalOf, afterOf, eventOf}
+use Rattle.cell.specs.Events.{messagesIn, sentTo, stepped, openingRefusal, openedWith, openingOf}
+use Rattle.cell.specs.Events.{advanceAllRefusal, advancedAll, advancedOne, advanceOneRefusal}
+use Rattle.cell.specs.Events.{startAtRefusal, deliverFull, deliverRefusal, delivered, loseRefusal}
+use Rattle.cell.specs.Events.{repeatRefusal, repeated, restartAtRefusal, refusalOf, afterOf}
+use Rattle.cell.specs.Events.{eventOf}
 use Rattle.cell.specs.Runs.{run, answers}
 use Rattle.table.specs.Table.{Table}
 use Rattle.table.specs.NotEmpty.{NotEmpty}
 use Rattle.table.specs.RefusalOrders.{RefusalOrders}
 
 computed : Table × NotEmpty × RefusalOrders
-unfolding frameOf writeAnswer framesIn framesOf answerTo handedNumbers handedAnswer handedAnswerTo ones onesIn firstOf le numberAt total numbersAt packed isMajority membersFrom lastTick lastEnd isAbove knownKind isResponse numbersOf messageOf addressedTo partyFits faultOf partyFitsTo faultTo moreOf kindLength bytesOf valueIn numbersIn readAnswer readOf waitEnd acceptedAt namedAt isFresh mayPromise hasEnded higherOf actsOn valueToPropose isForbidden mayAccept afterAccept namedBy lastLongest settingsOk durationOk ballotOk leaseOk acceptedOk promisedOk lastOk namedOk askingOk proposingOk roundOk stateOk agedAt lastWait hostOk advanceRefusal advancedHost advanceOf restartRefusal restartedHost restartOf startRefusal onStart startOf responseWith onPrepareRequest askingAfter onMajority onCountedReply onReply onPrepareResponse onProposeRequest proposingAfter onNaming onChosen onCountedVote onVote onProposeResponse onLearn onMessage onDelivery receiveRefusal receiveOf isEmpty contentOk slotsOk empties lowest placed placedEach noPromise noLease noTick noRound noHolder isBlankState placeOk stateAtOk placesOk statesOk clocksOk cellOk messagesIn sentTo stepped openingRefusal newHost openedWith openingOf eachHost advancesRefusal advanceAllRefusal advancedAll advancedOne advanceOneRefusal startAtRefusal deliverFull deliverRefusal delivered loseRefusal repeatRefusal repeated restartAtRefusal refusalOf afterOf eventOf run answers every allOf
+unfolding frameOf writeAnswer framesIn framesOf answerTo handedNumbers handedAnswer handedAnswerTo
+    ones onesIn firstOf le numberAt total numbersAt packed isMajority membersFrom lastTick lastEnd
+    isAbove knownKind isResponse numbersOf messageOf addressedTo partyFits faultOf partyFitsTo
+    faultTo moreOf kindLength bytesOf valueIn numbersIn readAnswer readOf waitEnd acceptedAt namedAt
+    isFresh mayPromise hasEnded higherOf actsOn valueToPropose isForbidden mayAccept afterAccept
+    namedBy lastLongest settingsOk durationOk ballotOk leaseOk acceptedOk promisedOk lastOk namedOk
+    askingOk proposingOk roundOk stateOk agedAt lastWait hostOk advanceRefusal advancedHost
+    advanceOf restartRefusal restartedHost restartOf startRefusal onStart startOf responseWith
+    onPrepareRequest askingAfter onMajority onCountedReply onReply onPrepareResponse
+    onProposeRequest proposingAfter onNaming onChosen onCountedVote onVote onProposeResponse onLearn
+    onMessage onDelivery receiveRefusal receiveOf isEmpty contentOk slotsOk empties lowest placed
+    placedEach noPromise noLease noTick noRound noHolder isBlankState placeOk stateAtOk placesOk
+    statesOk clocksOk cellOk messagesIn sentTo stepped openingRefusal newHost openedWith openingOf
+    eachHost advancesRefusal advanceAllRefusal advancedAll advancedOne advanceOneRefusal
+    startAtRefusal deliverFull deliverRefusal delivered loseRefusal repeatRefusal repeated
+    restartAtRefusal refusalOf afterOf eventOf run answers every allOf
 computed = (
-  record { P1 = refl; P2 = refl; P3 = refl; P4 = refl; P5 = (refl, refl); P6 = refl; P7 = refl; P8 = refl; P9 = (refl, refl, refl, refl); P10 = (refl, refl); P11 = refl; P12 = refl },
-  record { answered = refl; learned = refl; ended = refl; passed = refl; waits = refl; returned = refl },
+  record {
+    P1 = refl;
+    P2 = refl;
+    P3 = refl;
+    P4 = refl;
+    P5 = (refl, refl);
+    P6 = refl;
+    P7 = refl;
+    P8 = refl;
+    P9 = (refl, refl, refl, refl);
+    P10 = (refl, refl);
+    P11 = refl;
+    P12 = refl;
+  },
+  record {
+    answered = refl;
+    learned = refl;
+    ended = refl;
+    passed = refl;
+    waits = refl;
+    returned = refl;
+  },
   record {
     reading = refl;
     writing = refl;

@@ -124,8 +124,10 @@ pub record RefusalOrders : Type 0 where
       ∷ handedAnswerTo (sizes 3) (handedNumbers 1 0 0 105 1 0 0 0 0) 4 0
       ∷ handedAnswerTo (sizes 3) (handedNumbers 1 0 0 105 0 0 0 0 0) 4 0
       ∷ [] ≡ 1 ∷ 3 ∷ 5 ∷ 6 ∷ 7 ∷ 8 ∷ []
-  pub opening : openingOf wideSettings pastTick .answer ∷ openingOf settings pastTick .answer ∷ [] ≡ 1 ∷ 6 ∷ []
-  pub advance-all : answerOf broken (AdvanceAll 0) ∷ answerOf example (AdvanceAll 0) ∷ [] ≡ 1 ∷ 15 ∷ []
+  pub opening : openingOf wideSettings pastTick .answer ∷ openingOf settings pastTick .answer ∷ []
+      ≡ 1 ∷ 6 ∷ []
+  pub advance-all : answerOf broken (AdvanceAll 0) ∷ answerOf example (AdvanceAll 0) ∷ [] ≡ 1 ∷ 15
+      ∷ []
   pub advance-one : answerOf broken (AdvanceOne 3 0)
       ∷ map (answerOf at104) (AdvanceOne 3 0 ∷ AdvanceOne 0 (2 ^ 48) ∷ AdvanceOne 0 6 ∷ [])
       ≡ 1 ∷ 5 ∷ 15 ∷ 14 ∷ []
@@ -133,12 +135,15 @@ pub record RefusalOrders : Type 0 where
       ∷ map (answerOf at104) (Start 3 0 ∷ Start 0 0 ∷ [])
       ++ map (answerOf full) (Start 0 0 ∷ Start 0 50 ∷ Start 1 50 ∷ [])
       ≡ 1 ∷ 5 ∷ 9 ∷ 11 ∷ 10 ∷ 13 ∷ []
-  pub deliver : answerOf broken (Deliver 96) ∷ map (answerOf full) (Deliver 96 ∷ Deliver 1 ∷ []) ≡ 1 ∷ 12 ∷ 13 ∷ []
+  pub deliver : answerOf broken (Deliver 96) ∷ map (answerOf full) (Deliver 96 ∷ Deliver 1 ∷ []) ≡ 1
+      ∷ 12 ∷ 13 ∷ []
   pub lose : answerOf broken (Lose 96) ∷ answerOf full (Lose 96) ∷ [] ≡ 1 ∷ 12 ∷ []
-  pub repeat : answerOf broken (Repeat 96) ∷ map (answerOf full) (Repeat 96 ∷ Repeat 1 ∷ []) ≡ 1 ∷ 12 ∷ 13 ∷ []
+  pub repeat : answerOf broken (Repeat 96) ∷ map (answerOf full) (Repeat 96 ∷ Repeat 1 ∷ []) ≡ 1
+      ∷ 12 ∷ 13 ∷ []
   pub restart : answerOf broken (Restart 3) ∷ answerOf example (Restart 3) ∷ [] ≡ 1 ∷ 5 ∷ []
   -- a host's own steps
-  pub host-advance : advanceOf settings (stranger waiting) 0 .answer ∷ advanceOf settings waiting 0 .answer ∷ []
+  pub host-advance : advanceOf settings (stranger waiting) 0 .answer
+      ∷ advanceOf settings waiting 0 .answer ∷ []
       ≡ 1 ∷ 15 ∷ []
   pub host-start : startOf settings (stranger waiting) 0 .answer
       ∷ startOf settings waiting 0 .answer

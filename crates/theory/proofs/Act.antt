@@ -6,10 +6,12 @@ use mathlib.Core.Path.{_≡_, refl, sym, ap, _∙_}
 use mathlib.Core.Logic.{_⊎_, inl, inr, _≢_}
 use mathlib.Core.Option.{Option, none, some}
 use Rattle.theory.specs.Ballots.{proposer}
-use Rattle.theory.specs.Model.{Setup, Message, prepareRequest, prepareResponse, proposeRequest, proposeResponse, learn, Host, World, Sent, put}
+use Rattle.theory.specs.Model.{Setup, Message, prepareRequest, prepareResponse}
+use Rattle.theory.specs.Model.{proposeRequest, proposeResponse, learn, Host, World, Sent, put}
 use Rattle.theory.specs.Invariant.{Voted, Proposed, Live, MessageOk, HostOk, Invariant}
 use Rattle.theory.proofs.Ballots.{changed-all, with-old, with-cases}
-use Rattle.theory.proofs.Later.{Fresh, Remembers, Later, live-before, message-kept, host-kept}
+use Rattle.theory.proofs.Later.{Fresh, Remembers, Later, live-before, message-kept}
+use Rattle.theory.proofs.Later.{host-kept}
 
 -- a number for each kind of message, 0 for none: to tell them apart
 abbrev pub kind : Option Message → ℕ
@@ -37,14 +39,16 @@ module _ {𝒞 : Setup} where
     pub wait : s .host h .wait ≤ v .wait
     pub memory : Remembers (s .clock h) (s .host h) v
     pub vote : (x b : ℕ) → m ≡ some (proposeResponse x b) → (x ≡ h) × Fresh s h b
-    pub proposal : (b o e : ℕ) → m ≡ some (proposeRequest b o e) → (proposer b ≡ h) × ((o' e' : ℕ) → Proposed s b o' e' → ⊥)
+    pub proposal : (b o e : ℕ) → m ≡ some (proposeRequest b o e) → (proposer b ≡ h)
+        × ((o' e' : ℕ) → Proposed s b o' e' → ⊥)
 
   -- what a new proposal owes to the others
   pub record NewProposal (s s' : World 𝒞) (b o e : ℕ) : Type 0 where
     pub up : (c o' e' : ℕ) → Proposed s c o' e' → c < b → Live s c o' e' → (o' ≡ o) × (e' ≤ e)
     pub down : (c o' e' : ℕ) → Proposed s c o' e' → b < c → Live s' b o e → ⊥
 
-  module _ {s : World 𝒞} (I : Invariant s) (h : ℕ) (v : Host 𝒞) (m : Option Message) (F : Owed s h v m) where
+  module _ {s : World 𝒞} (I : Invariant s) (h : ℕ) (v : Host 𝒞) (m : Option Message)
+      (F : Owed s h v m) where
     voted-cases : (x b : ℕ) → Voted (put s h v m) x b → Voted s x b ⊎ ((x ≡ h) × Fresh s h b)
     voted-cases x b q = go (with-cases m q)
       where
@@ -57,14 +61,16 @@ module _ {𝒞 : Setup} where
     unvoted b o e q x w = go (with-cases m w)
       where
         go : Voted s x b ⊎ (m ≡ some (proposeResponse x b)) → ⊥
-        go (inl w) = let k = I .messages _ w in F .proposal b o e q .1 (k .owner) (k .end) (k .proposed)
+        go (inl w) =
+            let k = I .messages _ w in F .proposal b o e q .1 (k .owner) (k .end) (k .proposed)
         go (inr w) = omega (arith, ap kind (sym q ∙ w))
 
     pub later : Later s (put s h v m)
     later = record {
       sent = λ m' q. with-old m q;
       clock = λ x. le-refl _;
-      wait = changed-all (λ x w. s .host x .wait ≤ w .wait) (s .host) h v (F .wait) (λ x n. le-refl _);
+      wait =
+          changed-all (λ x w. s .host x .wait ≤ w .wait) (s .host) h v (F .wait) (λ x n. le-refl _);
       memory =
           changed-all (λ x w. Remembers (s .clock x) (s .host x) w) (s .host) h v (F .memory)
           (λ x n. inl (le-refl _, le-refl _));
@@ -76,12 +82,15 @@ module _ {𝒞 : Setup} where
         go x b (inl q) = inl q
         go x b (inr q) = inr (rw (q .0) (q .1))
 
-        prop : (b o e : ℕ) → Proposed s b o e ⊎ (m ≡ some (proposeRequest b o e)) → Proposed s b o e ⊎ ((x : ℕ) → Voted (put s h v m) x b → ⊥)
+        prop : (b o e : ℕ) → Proposed s b o e ⊎ (m ≡ some (proposeRequest b o e)) → Proposed s b o e
+            ⊎ ((x : ℕ) → Voted (put s h v m) x b → ⊥)
         prop b o e (inl q) = inl q
         prop b o e (inr q) = inr (unvoted b o e q)
 
-    pub held : ((m' : Message) → m ≡ some m' → MessageOk (put s h v m) m') → HostOk (put s h v m) h v →
-        ((b o e : ℕ) → m ≡ some (proposeRequest b o e) → NewProposal s (put s h v m) b o e) → Invariant (put s h v m)
+    pub held : ((m' : Message) → m ≡ some m' → MessageOk (put s h v m) m')
+        → HostOk (put s h v m) h v →
+        ((b o e : ℕ) → m ≡ some (proposeRequest b o e) → NewProposal s (put s h v m) b o e)
+        → Invariant (put s h v m)
     held said mine-ok new = record {
       near = I .near;
       messages = λ m' q. at m' (with-cases m q);
@@ -98,7 +107,8 @@ module _ {𝒞 : Setup} where
         quiet x n b (inl q) = q
         quiet x n b (inr q) = absurd (n (q .0))
 
-        mine : (x : ℕ) → x ≢ h → (b o e : ℕ) → proposer b ≡ x → Proposed s b o e ⊎ (m ≡ some (proposeRequest b o e)) → Proposed s b o e
+        mine : (x : ℕ) → x ≢ h → (b o e : ℕ) → proposer b ≡ x → Proposed s b o e
+            ⊎ (m ≡ some (proposeRequest b o e)) → Proposed s b o e
         mine x n b o e i (inl q) = q
         mine x n b o e i (inr q) = absurd (n (sym i ∙ F .proposal b o e q .0))
 
@@ -117,7 +127,9 @@ module _ {𝒞 : Setup} where
         chain : (b o e b' o' e' : ℕ) → Proposed s b o e ⊎ (m ≡ some (proposeRequest b o e)) →
             Proposed s b' o' e' ⊎ (m ≡ some (proposeRequest b' o' e')) → b < b' →
             Live (put s h v m) b o e → (o ≡ o') × (e ≤ e')
-        chain b o e b' o' e' (inl p) (inl q) l k = I .main b o e b' o' e' p q l (live-before I later b o e p k)
-        chain b o e b' o' e' (inl p) (inr q) l k = new b' o' e' q .up b o e p l (live-before I later b o e p k)
+        chain b o e b' o' e' (inl p) (inl q) l k =
+            I .main b o e b' o' e' p q l (live-before I later b o e p k)
+        chain b o e b' o' e' (inl p) (inr q) l k =
+            new b' o' e' q .up b o e p l (live-before I later b o e p k)
         chain b o e b' o' e' (inr p) (inl q) l k = absurd (new b o e p .down b' o' e' q l k)
         chain b o e b' o' e' (inr p) (inr q) l k = absurd (let z : b ≡ b' = cc in omega arith)

@@ -6,12 +6,17 @@ use mathlib.Core.Path.{_≡_, refl, ap, subst}
 use mathlib.Core.Logic.{_⊎_, inl, inr}
 use mathlib.Core.Option.{Option, none, some, Option·none-ne-some, Option·some-injective}
 use Rattle.theory.specs.Ballots.{Lease, Holder}
-use Rattle.theory.specs.Model.{Setup, Message, prepareRequest, prepareResponse, proposeRequest, proposeResponse, learn, Host, World, Sent, put, restarted, withVote, withHolder, accepting, Above, NotBelow}
-use Rattle.theory.specs.Invariant.{Voted, Proposed, Live, Reply, Holding, MessageOk, HostOk, Invariant}
+use Rattle.theory.specs.Model.{Setup, Message, prepareRequest, prepareResponse}
+use Rattle.theory.specs.Model.{proposeRequest, proposeResponse, learn, Host, World, Sent, put}
+use Rattle.theory.specs.Model.{restarted, withVote, withHolder, accepting, Above, NotBelow}
+use Rattle.theory.specs.Invariant.{Voted, Proposed, Live, Reply, Holding, MessageOk, HostOk}
+use Rattle.theory.specs.Invariant.{Invariant}
 use Rattle.theory.proofs.Ballots.{changed-here, with-cases}
-use Rattle.theory.proofs.Later.{Fresh, Later, live-before, holding-kept, accepted-kept-on, round-kept, named-kept}
+use Rattle.theory.proofs.Later.{Fresh, Later, live-before, holding-kept, accepted-kept-on}
+use Rattle.theory.proofs.Later.{round-kept, named-kept}
 use Rattle.theory.proofs.Act.{kind, Owed, later, held}
-use Rattle.theory.proofs.ActParts.{top-promised, voted-top, plain-owed, voted-before, proposed-before, mute}
+use Rattle.theory.proofs.ActParts.{top-promised, voted-top, plain-owed, voted-before}
+use Rattle.theory.proofs.ActParts.{proposed-before, mute}
 
 module _ {𝒞 : Setup} where
   module _ {s : World 𝒞} (I : Invariant s) (h : ℕ) where
@@ -36,19 +41,27 @@ module _ {𝒞 : Setup} where
         w = restarted (s .clock h)
 
         F : Owed s h w none
-        F = plain-owed I h w none (omega arith) (omega (arith, I .hosts h .wait-short)) (inr (omega arith))
+        F = plain-owed I h w none (omega arith) (omega (arith, I .hosts h .wait-short))
+            (inr (omega arith))
 
-    pub keep-promise : (b : ℕ) → Sent s (prepareRequest b) → s .host h .wait ≤ s .clock h → Above (s .host h) b →
-        Invariant (put s h (withVote (s .host h) (b + 1) (s .host h .accepted)) (some (prepareResponse h b (s .host h .accepted))))
+    pub keep-promise : (b : ℕ) → Sent s (prepareRequest b) → s .host h .wait ≤ s .clock h
+        → Above (s .host h) b →
+        Invariant
+        (put s h (withVote (s .host h) (b + 1) (s .host h .accepted))
+        (some (prepareResponse h b (s .host h .accepted))))
     keep-promise b q awake above =
-        held I h w m F (λ m' z. subst (λ k. MessageOk (put s h w m) k) (Option·some-injective _ _ z) reply)
+        held I h w m F
+        (λ m' z. subst (λ k. MessageOk (put s h w m) k) (Option·some-injective _ _ z) reply)
         (record {
           wait-short = H .wait-short;
           promised-old = λ c l. omega (arith, I .messages _ q h);
-          accepted-ok = λ a z. (L .sent _ (H .accepted-ok a z .0), omega (arith, H .accepted-ok a z .1));
+          accepted-ok = λ a z.
+              (L .sent _ (H .accepted-ok a z .0), omega (arith, H .accepted-ok a z .1));
           accepted-kept =
-              accepted-kept-on I L h (v .wait) (v .wait) (v .accepted) (v .accepted) (voted-before I h w m (omega arith) h) (le-refl _) (le-refl _) (H .accepted-kept);
-          round-ok = round-kept I L h (v .last) (v .round) (mute I h w m (omega arith) h) (H .round-ok);
+              accepted-kept-on I L h (v .wait) (v .wait) (v .accepted) (v .accepted)
+              (voted-before I h w m (omega arith) h) (le-refl _) (le-refl _) (H .accepted-kept);
+          round-ok =
+              round-kept I L h (v .last) (v .round) (mute I h w m (omega arith) h) (H .round-ok);
           named-ok = named-kept I L h (v .named) refl (H .named-ok);
         })
         (λ b o e q. absurd (omega (arith, ap kind q)))
@@ -74,26 +87,36 @@ module _ {𝒞 : Setup} where
         reply : Reply (put s h w m) h b (v .accepted)
         reply = record {
           heard = record {
-            joined = λ l. absurd (omega (arith, ap (λ k. k .promised) (changed-here (s .host) h w)));
+            joined = λ l.
+                absurd (omega (arith, ap (λ k. k .promised) (changed-here (s .host) h w)));
             full = λ c o e p l k x.
                 let p' = proposed-before I h w m (omega arith) c o e p in
-                voted-top I h c o e awake (voted-before I h w m (omega arith) h c x) p' (live-before I L c o e p' k);
+                voted-top I h c o e awake (voted-before I h w m (omega arith) h c x) p'
+                (live-before I L c o e p' k);
           };
           below = λ a z. (L .sent _ (H .accepted-ok a z .0), omega (arith, H .accepted-ok a z .1));
         }
 
-    pub keep-accept : (b o e : ℕ) → Sent s (proposeRequest b o e) → s .host h .wait ≤ s .clock h → s .clock h < e → NotBelow (s .host h) b →
+    pub keep-accept : (b o e : ℕ) → Sent s (proposeRequest b o e) → s .host h .wait ≤ s .clock h
+        → s .clock h < e → NotBelow (s .host h) b →
         Invariant (put s h (accepting (s .host h) b o e) (some (proposeResponse h b)))
     keep-accept b o e q awake ahead above =
-        held I h w m F (λ m' z. subst (λ k. MessageOk (put s h w m) k) (Option·some-injective _ _ z) (record { owner = o; end = e; proposed = L .sent _ q }))
+        held I h w m F
+        (λ m' z.
+        subst (λ k. MessageOk (put s h w m) k) (Option·some-injective _ _ z)
+        (record { owner = o; end = e; proposed = L .sent _ q }))
         (record {
           wait-short = H .wait-short;
           promised-old = λ c l. omega (arith, I .messages _ q .old h);
           accepted-ok = λ k z.
-              subst (λ k. Proposed (put s h w m) (k .ballot) (k .owner) (k .end) × (k .ballot < w .promised)) (Option·some-injective a k z)
+              subst
+              (λ k.
+              Proposed (put s h w m) (k .ballot) (k .owner) (k .end) × (k .ballot < w .promised))
+              (Option·some-injective a k z)
               (L .sent _ q, omega arith);
           accepted-kept = λ c o' e' x p k l. topped c o' e' (with-cases m x) (unsaid c o' e' p) k l;
-          round-ok = round-kept I L h (v .last) (v .round) (mute I h w m (omega arith) h) (H .round-ok);
+          round-ok =
+              round-kept I L h (v .last) (v .round) (mute I h w m (omega arith) h) (H .round-ok);
           named-ok = named-kept I L h (v .named) refl (H .named-ok);
         })
         (λ b o e q. absurd (omega (arith, ap kind q)))
@@ -114,7 +137,15 @@ module _ {𝒞 : Setup} where
         H = I .hosts h
 
         free : Fresh s h b
-        free = record { awake = awake; unbound = omega (arith, above); owner = o; end = e; proposed = q; ahead = ahead }
+        free =
+            record {
+              awake = awake;
+              unbound = omega (arith, above);
+              owner = o;
+              end = e;
+              proposed = q;
+              ahead = ahead;
+            }
 
         F : Owed s h w m
         F = record {
@@ -130,23 +161,33 @@ module _ {𝒞 : Setup} where
         unsaid : (c o e : ℕ) → Proposed (put s h w m) c o e → Proposed s c o e
         unsaid = proposed-before I h w m (omega arith)
 
-        topped : (c o' e' : ℕ) → Voted s h c ⊎ (m ≡ some (proposeResponse h c)) → Proposed s c o' e' → Live (put s h w m) c o' e' →
+        topped : (c o' e' : ℕ) → Voted s h c ⊎ (m ≡ some (proposeResponse h c)) → Proposed s c o' e'
+            → Live (put s h w m) c o' e' →
             v .wait < e' → c < b + 1
-        topped c o' e' (inl x) p k l = omega (arith, top-promised H, H .accepted-kept c o' e' x p (live-before I L c o' e' p k) l)
+        topped c o' e' (inl x) p k l =
+            omega
+            (arith, top-promised H, H .accepted-kept c o' e' x p (live-before I L c o' e' p k) l)
         topped c o' e' (inr z) p k l = let r : b ≡ c = cc in omega arith
 
     pub keep-name : (b o f : ℕ) → Sent s (learn b o f) → s .clock h < f →
-        Invariant (put s h (withHolder (s .host h) (record { ballot = b; owner = o; end = f })) none)
+        Invariant
+        (put s h (withHolder (s .host h) (record { ballot = b; owner = o; end = f })) none)
     keep-name b o f m l =
         held I h w none F (λ m' q. absurd (Option·none-ne-some m' q))
         (record {
           wait-short = H .wait-short;
           promised-old = H .promised-old;
           accepted-ok = λ a q. (L .sent _ (H .accepted-ok a q .0), H .accepted-ok a q .1);
-          accepted-kept = accepted-kept-on I L h (v .wait) (v .wait) (v .accepted) (v .accepted) (λ b q. q) (le-refl _) (le-refl _) (H .accepted-kept);
-          round-ok = round-kept I L h (v .last) (v .round) (mute I h w none (omega arith) h) (H .round-ok);
+          accepted-kept =
+              accepted-kept-on I L h (v .wait) (v .wait) (v .accepted) (v .accepted) (λ b q. q)
+              (le-refl _) (le-refl _) (H .accepted-kept);
+          round-ok =
+              round-kept I L h (v .last) (v .round) (mute I h w none (omega arith) h) (H .round-ok);
           named-ok = λ k q.
-              subst (λ k. Holding (put s h w none) (k .ballot) (k .owner) (k .end) × (s .clock h < k .end)) (Option·some-injective n k q)
+              subst
+              (λ k.
+              Holding (put s h w none) (k .ballot) (k .owner) (k .end) × (s .clock h < k .end))
+              (Option·some-injective n k q)
               (holding-kept I L b o f (I .messages _ m), l);
         })
         (λ b o e q. absurd (Option·none-ne-some _ q))

@@ -6,8 +6,10 @@ use mathlib.Core.Path.{_≡_, refl, ap}
 use mathlib.Core.Logic.{_⊎_, inl, inr}
 use mathlib.Core.Option.{Option, none, some, Option·none-ne-some}
 use Rattle.theory.specs.Ballots.{tick, Lease, top}
-use Rattle.theory.specs.Model.{Setup, Message, proposeRequest, proposeResponse, Round, Host, World, put, withRound, withAsking}
-use Rattle.theory.specs.Invariant.{Voted, Proposed, Joined, Shut, Dead, Live, RoundOk, HostOk, Invariant}
+use Rattle.theory.specs.Model.{Setup, Message, proposeRequest, proposeResponse, Round, Host}
+use Rattle.theory.specs.Model.{World, put, withRound, withAsking}
+use Rattle.theory.specs.Invariant.{Voted, Proposed, Joined, Shut, Dead, Live, RoundOk, HostOk}
+use Rattle.theory.specs.Invariant.{Invariant}
 use Rattle.theory.proofs.Ballots.{le-or-lt, with-cases}
 use Rattle.theory.proofs.Later.{Remembers, Mute, accepted-kept-on, round-kept, named-kept}
 use Rattle.theory.proofs.Act.{kind, Plain, NoVote, NoProposal, Owed, later, held}
@@ -22,7 +24,8 @@ module _ {𝒞 : Setup} where
   come-dead I x e l y = omega (arith, I .near x y)
 
   -- a proposal with a live one's ballot, or a higher one, is for the same owner, and ends no earlier
-  pub under : {s : World 𝒞} → Invariant s → (b o e : ℕ) (a : Lease) → Proposed s b o e → Proposed s (a .ballot) (a .owner) (a .end) → b ≤ a .ballot →
+  pub under : {s : World 𝒞} → Invariant s → (b o e : ℕ) (a : Lease) → Proposed s b o e
+      → Proposed s (a .ballot) (a .owner) (a .end) → b ≤ a .ballot →
       Live s b o e → (o ≡ a .owner) × (e ≤ a .end)
   under {s} I b o e a p q l k = go (le-or-lt (a .ballot) b)
     where
@@ -34,7 +37,8 @@ module _ {𝒞 : Setup} where
           (r .0, omega (arith, r .1))
 
   -- an accepted ballot is promised
-  pub top-promised : {s : World 𝒞} {x : ℕ} {v : Host 𝒞} → HostOk s x v → top (v .accepted) ≤ v .promised
+  pub top-promised : {s : World 𝒞} {x : ℕ} {v : Host 𝒞} → HostOk s x v
+      → top (v .accepted) ≤ v .promised
   top-promised {s} {x} {v} H = go (v .accepted) refl
     where
       go : (A : Option Lease) → v .accepted ≡ A → top A ≤ v .promised
@@ -42,7 +46,8 @@ module _ {𝒞 : Setup} where
       go (some a) q = omega (arith, H .accepted-ok a q .1)
 
   -- a live proposal that an awake host voted for is at or below what it has accepted
-  pub voted-top : {s : World 𝒞} → Invariant s → (x b o e : ℕ) → s .host x .wait ≤ s .clock x → Voted s x b → Proposed s b o e → Live s b o e →
+  pub voted-top : {s : World 𝒞} → Invariant s → (x b o e : ℕ) → s .host x .wait ≤ s .clock x
+      → Voted s x b → Proposed s b o e → Live s b o e →
       b < top (s .host x .accepted)
   voted-top {s} I x b o e w v p k = go (le-or-lt e (s .host x .wait))
     where
@@ -51,24 +56,34 @@ module _ {𝒞 : Setup} where
       go (inr l) = I .hosts x .accepted-kept b o e v p k l
 
   -- who has joined b is shut to all below b
-  pub joined-shut : (s : World 𝒞) (x b c e : ℕ) → c < b → e ≤ tick c + T → Joined s x b → Shut s x c e
+  pub joined-shut : (s : World 𝒞) (x b c e : ℕ) → c < b → e ≤ tick c + T → Joined s x b
+      → Shut s x c e
   joined-shut s x b c e l t j p w = omega (arith, j (omega arith))
 
   module _ {s : World 𝒞} (I : Invariant s) (h : ℕ) where
     -- what is owed where the message is no vote and no proposal
     pub plain-owed : (v : Host 𝒞) (m : Option Message) → Plain m → s .host h .wait ≤ v .wait →
         Remembers (s .clock h) (s .host h) v → Owed s h v m
-    plain-owed v m pl w k = record { wait = w; memory = k; vote = λ x b q. absurd (pl .vote (ap kind q)); proposal = λ b o e q. absurd (pl .proposal (ap kind q)) }
+    plain-owed v m pl w k =
+        record {
+          wait = w;
+          memory = k;
+          vote = λ x b q.
+              absurd (pl .vote (ap kind q));
+          proposal = λ b o e q. absurd (pl .proposal (ap kind q));
+        }
 
     -- where the message is no vote, or no proposal, there was each of them before
-    pub voted-before : (v : Host 𝒞) (m : Option Message) → NoVote m → (x b : ℕ) → Voted (put s h v m) x b → Voted s x b
+    pub voted-before : (v : Host 𝒞) (m : Option Message) → NoVote m → (x b : ℕ)
+        → Voted (put s h v m) x b → Voted s x b
     voted-before v m nv x b q = go (with-cases m q)
       where
         go : Voted s x b ⊎ (m ≡ some (proposeResponse x b)) → Voted s x b
         go (inl q) = q
         go (inr q) = absurd (nv .vote (ap kind q))
 
-    pub proposed-before : (v : Host 𝒞) (m : Option Message) → NoProposal m → (b o e : ℕ) → Proposed (put s h v m) b o e → Proposed s b o e
+    pub proposed-before : (v : Host 𝒞) (m : Option Message) → NoProposal m → (b o e : ℕ)
+        → Proposed (put s h v m) b o e → Proposed s b o e
     proposed-before v m np b o e q = go (with-cases m q)
       where
         go : Proposed s b o e ⊎ (m ≡ some (proposeRequest b o e)) → Proposed s b o e
@@ -79,8 +94,10 @@ module _ {𝒞 : Setup} where
     mute v m pl x = record { proposed = λ b o e i q. proposed-before v m pl b o e q }
 
     -- a host of which only the round and the last ballot's tick change
-    pub host-with-round : (l : ℕ) (r : Round 𝒞) (m : Option Message) (F : Owed s h (withAsking (s .host h) l r) m) → NoVote m →
-        RoundOk (put s h (withAsking (s .host h) l r) m) h l r → HostOk (put s h (withAsking (s .host h) l r) m) h (withAsking (s .host h) l r)
+    pub host-with-round : (l : ℕ) (r : Round 𝒞) (m : Option Message)
+        (F : Owed s h (withAsking (s .host h) l r) m) → NoVote m →
+        RoundOk (put s h (withAsking (s .host h) l r) m) h l r
+        → HostOk (put s h (withAsking (s .host h) l r) m) h (withAsking (s .host h) l r)
     host-with-round l r m F qu k =
         let v = s .host h in
         let H = I .hosts h in
@@ -90,16 +107,21 @@ module _ {𝒞 : Setup} where
           promised-old = H .promised-old;
           accepted-ok = λ a q. (L .sent _ (H .accepted-ok a q .0), H .accepted-ok a q .1);
           accepted-kept =
-              accepted-kept-on I L h (v .wait) (v .wait) (v .accepted) (v .accepted) (voted-before (withAsking v l r) m qu h) (le-refl _) (le-refl _) (H .accepted-kept);
+              accepted-kept-on I L h (v .wait) (v .wait) (v .accepted) (v .accepted)
+              (voted-before (withAsking v l r) m qu h) (le-refl _) (le-refl _) (H .accepted-kept);
           round-ok = k;
           named-ok = named-kept I L h (v .named) refl (H .named-ok);
         }
 
     -- a step of the round only, with no message
-    pub keep-round : (r : Round 𝒞) → RoundOk s h (s .host h .last) r → Invariant (put s h (withRound (s .host h) r) none)
+    pub keep-round : (r : Round 𝒞) → RoundOk s h (s .host h .last) r
+        → Invariant (put s h (withRound (s .host h) r) none)
     keep-round r k =
         let v = s .host h in
-        let F = plain-owed (withRound v r) none (omega arith) (le-refl _) (inl (le-refl _, le-refl _)) in
+        let F =
+        plain-owed (withRound v r) none (omega arith) (le-refl _) (inl (le-refl _, le-refl _)) in
         held I h (withRound v r) none F (λ m q. absurd (Option·none-ne-some m q))
-        (host-with-round (v .last) r none F (omega arith) (round-kept I (later I h (withRound v r) none F) h (v .last) r (mute (withRound v r) none (omega arith) h) k))
+        (host-with-round (v .last) r none F (omega arith)
+        (round-kept I (later I h (withRound v r) none F) h (v .last) r
+        (mute (withRound v r) none (omega arith) h) k))
         (λ b o e q. absurd (omega (arith, ap kind q)))

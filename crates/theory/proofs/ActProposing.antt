@@ -6,23 +6,33 @@ use mathlib.Core.Path.{_≡_, ap, subst, _∙_}
 use mathlib.Core.Logic.{_⊎_, inl, inr}
 use mathlib.Core.Option.{Option, none, some, Option·some-injective}
 use Rattle.theory.specs.Ballots.{tick, proposer, Lease, top}
-use Rattle.theory.specs.Model.{Setup, Message, proposeRequest, proposeResponse, learn, asking, proposing, Host, World, Sent, put, withRound, HoldersEnd, Choice, free, over, renew, other}
-use Rattle.theory.specs.Invariant.{Voted, Proposed, Live, Proposal, Holding, MessageOk, Asking, Proposing, Invariant}
+use Rattle.theory.specs.Model.{Setup, Message, proposeRequest, proposeResponse, learn, asking}
+use Rattle.theory.specs.Model.{proposing, Host, World, Sent, put, withRound, HoldersEnd}
+use Rattle.theory.specs.Model.{Choice, free, over, renew, other}
+use Rattle.theory.specs.Invariant.{Voted, Proposed, Live, Proposal, Holding, MessageOk}
+use Rattle.theory.specs.Invariant.{Asking, Proposing, Invariant}
 use Rattle.theory.proofs.Ballots.{le-or-lt, with-new}
 use Rattle.theory.proofs.Later.{Later, message-kept, joined-kept, holding-kept, round-kept}
 use Rattle.theory.proofs.Act.{kind, Owed, NewProposal, later, held}
-use Rattle.theory.proofs.ActParts.{come-dead, under, joined-shut, plain-owed, voted-before, mute, host-with-round, keep-round}
+use Rattle.theory.proofs.ActParts.{come-dead, under, joined-shut, plain-owed, voted-before}
+use Rattle.theory.proofs.ActParts.{mute, host-with-round, keep-round}
 
 module _ {𝒞 : Setup} where
   open Setup 𝒞 using (longest as T, spread as S, Hosts, In, Majority)
 
   module _ {s : World 𝒞} (I : Invariant s) (h : ℕ) where
-    pub keep-propose : (b d o e : ℕ) (R R' : Hosts) (K : Option Lease) → s .host h .round ≡ asking b d R K → Majority R →
+    pub keep-propose : (b d o e : ℕ) (R R' : Hosts) (K : Option Lease)
+        → s .host h .round ≡ asking b d R K → Majority R →
         Choice h (s .clock h) (tick b + d + S) K o e → ((x : ℕ) → In x R' → ⊥) →
-        Invariant (put s h (withRound (s .host h) (proposing b o e R')) (some (proposeRequest b o e)))
+        Invariant
+        (put s h (withRound (s .host h) (proposing b o e R')) (some (proposeRequest b o e)))
     keep-propose b d o e R R' K q maj choice nobody =
-        held I h w m F (λ m' z. subst (λ k. MessageOk (put s h w m) k) (Option·some-injective _ _ z) (message-kept I L (proposeRequest b o e) proposal))
-        (host-with-round I h (v .last) (proposing b o e R') m F (omega arith) (record { proposed = with-new; votes = λ x i. absurd (nobody x i) }))
+        held I h w m F
+        (λ m' z.
+        subst (λ k. MessageOk (put s h w m) k) (Option·some-injective _ _ z)
+        (message-kept I L (proposeRequest b o e) proposal))
+        (host-with-round I h (v .last) (proposing b o e R') m F (omega arith)
+        (record { proposed = with-new; votes = λ x i. absurd (nobody x i) }))
         (λ b' o' e' z. new b' o' e' (Option·some-injective _ _ z))
       where
         v : Host 𝒞
@@ -42,7 +52,9 @@ module _ {𝒞 : Setup} where
           wait = le-refl _;
           memory = inl (le-refl _, le-refl _);
           vote = λ x c z. absurd (omega (arith, ap kind z));
-          proposal = λ c o' e' z. let r : b ≡ c = cc in subst (λ c. (proposer c ≡ h) × ((o' e' : ℕ) → Proposed s c o' e' → ⊥)) r (Q .ours, Q .unsaid);
+          proposal = λ c o' e' z. let r : b ≡ c = cc in
+              subst (λ c. (proposer c ≡ h) × ((o' e' : ℕ) → Proposed s c o' e' → ⊥)) r
+              (Q .ours, Q .unsaid);
         }
 
         L : Later s (put s h w m)
@@ -80,20 +92,25 @@ module _ {𝒞 : Setup} where
                   set = R;
                   majority = maj;
                   silent = λ x i y. omega (arith, Q .heard x i .full c o' e' p l k y);
-                  shut = λ x i. joined-shut s x b c e' l (I .messages _ p .short) (Q .heard x i .joined);
+                  shut = λ x i.
+                      joined-shut s x b c e' l (I .messages _ p .short) (Q .heard x i .joined);
                 }))
 
         -- ... so it is for the same owner, and ends no earlier
-        at-one : (a : Lease) → K ≡ some a → (c o' e' : ℕ) → Proposed s c o' e' → c < b → Live s c o' e' → (o' ≡ a .owner) × (e' ≤ a .end)
+        at-one : (a : Lease) → K ≡ some a → (c o' e' : ℕ) → Proposed s c o' e' → c < b
+            → Live s c o' e' → (o' ≡ a .owner) × (e' ≤ a .end)
         at-one a z c o' e' p l k =
             let t : c < a .ballot + 1 = rw z at (covered c o' e' p l k) in
             under I c o' e' a p (Q .below a z .0) (omega arith) k
 
-        up : {o e : ℕ} → Choice h (s .clock h) (tick b + d + S) K o e → (c o' e' : ℕ) → Proposed s c o' e' → c < b → Live s c o' e' →
+        up : {o e : ℕ} → Choice h (s .clock h) (tick b + d + S) K o e → (c o' e' : ℕ)
+            → Proposed s c o' e' → c < b → Live s c o' e' →
             (o' ≡ o) × (e' ≤ e)
         up (free z) c o' e' p l k = absurd (omega (arith, covered c o' e' p l k, ap top z))
-        up (over a z t) c o' e' p l k = absurd (k .not-dead (come-dead I h e' (omega (arith, at-one a z c o' e' p l k .1))))
-        up (renew a e z i t t' r) c o' e' p l k = let g = at-one a z c o' e' p l k in (g .0 ∙ i, omega (arith, g .1))
+        up (over a z t) c o' e' p l k =
+            absurd (k .not-dead (come-dead I h e' (omega (arith, at-one a z c o' e' p l k .1))))
+        up (renew a e z i t t' r) c o' e' p l k =
+            let g = at-one a z c o' e' p l k in (g .0 ∙ i, omega (arith, g .1))
         up (other a z) c o' e' p l k = at-one a z c o' e' p l k
 
         -- a proposal with a higher ballot blocks this one
@@ -103,21 +120,31 @@ module _ {𝒞 : Setup} where
             k .not-blocked (record {
               set = g .set;
               majority = g .majority;
-              silent = λ x i y. let u = I .messages _ (voted-before I h w m (omega arith) x b y) in Q .unsaid (u .owner) (u .end) (u .proposed);
-              shut = λ x i. joined-shut (put s h w m) x c b e l (end-short choice) (joined-kept I L x c (g .joined x i));
+              silent = λ x i y. let u = I .messages _ (voted-before I h w m (omega arith) x b y) in
+                  Q .unsaid (u .owner) (u .end) (u .proposed);
+              shut = λ x i.
+                  joined-shut (put s h w m) x c b e l (end-short choice)
+                  (joined-kept I L x c (g .joined x i));
             })
 
-        new : (b' o' e' : ℕ) → proposeRequest b o e ≡ proposeRequest b' o' e' → NewProposal s (put s h w m) b' o' e'
+        new : (b' o' e' : ℕ) → proposeRequest b o e ≡ proposeRequest b' o' e'
+            → NewProposal s (put s h w m) b' o' e'
         new b' o' e' z =
             let p : b ≡ b' = cc in
             let q : o ≡ o' = cc in
             let r : e ≡ e' = cc in
             subst (λ b. NewProposal s (put s h w m) b o' e') p
-            (subst (λ o. NewProposal s (put s h w m) b o e') q (subst (λ e. NewProposal s (put s h w m) b o e) r (record { up = up choice; down = down })))
+            (subst (λ o. NewProposal s (put s h w m) b o e') q
+            (subst (λ e. NewProposal s (put s h w m) b o e) r
+            (record { up = up choice; down = down })))
 
-    pub keep-count : (b o e : ℕ) (R R' : Hosts) (x : ℕ) → s .host h .round ≡ proposing b o e R → Sent s (proposeResponse x b) →
-        ((y : ℕ) → In y R' → (y ≡ x) ⊎ In y R) → Invariant (put s h (withRound (s .host h) (proposing b o e R')) none)
-    keep-count b o e R R' x q m more = keep-round I h (proposing b o e R') (record { proposed = Q .proposed; votes = λ y i. by-whom y (more y i) })
+    pub keep-count : (b o e : ℕ) (R R' : Hosts) (x : ℕ) → s .host h .round ≡ proposing b o e R
+        → Sent s (proposeResponse x b) →
+        ((y : ℕ) → In y R' → (y ≡ x) ⊎ In y R)
+        → Invariant (put s h (withRound (s .host h) (proposing b o e R')) none)
+    keep-count b o e R R' x q m more =
+        keep-round I h (proposing b o e R')
+        (record { proposed = Q .proposed; votes = λ y i. by-whom y (more y i) })
       where
         Q : Proposing s b o e R
         Q = rw q at (I .hosts h .round-ok)
@@ -126,11 +153,15 @@ module _ {𝒞 : Setup} where
         by-whom y (inl z) = rw z m
         by-whom y (inr i) = Q .votes y i
 
-    pub keep-tell : (b o e f : ℕ) (R : Hosts) → s .host h .round ≡ proposing b o e R → Majority R → HoldersEnd S e f →
+    pub keep-tell : (b o e f : ℕ) (R : Hosts) → s .host h .round ≡ proposing b o e R → Majority R
+        → HoldersEnd S e f →
         Invariant (put s h (s .host h) (some (learn b o f)))
     keep-tell b o e f R q maj apart =
-        held I h v m F (λ m' z. subst (λ k. MessageOk (put s h v m) k) (Option·some-injective _ _ z) told)
-        (host-with-round I h (v .last) (v .round) m F (omega arith) (round-kept I L h (v .last) (v .round) (mute I h v m (omega arith) h) (I .hosts h .round-ok)))
+        held I h v m F
+        (λ m' z. subst (λ k. MessageOk (put s h v m) k) (Option·some-injective _ _ z) told)
+        (host-with-round I h (v .last) (v .round) m F (omega arith)
+        (round-kept I L h (v .last) (v .round) (mute I h v m (omega arith) h)
+        (I .hosts h .round-ok)))
         (λ b o e q. absurd (omega (arith, ap kind q)))
       where
         v : Host 𝒞
@@ -153,4 +184,9 @@ module _ {𝒞 : Setup} where
         earlier = let z : e ≡ f + S = omega (arith, apart) in rw z at (Q .proposed)
 
         told : Holding (put s h v m) b o f
-        told = holding-kept I L b o f (record { proposed = earlier; chosen = record { set = R; majority = maj; votes = Q .votes } })
+        told =
+            holding-kept I L b o f
+            (record {
+              proposed = earlier;
+              chosen = record { set = R; majority = maj; votes = Q .votes };
+            })

@@ -23,26 +23,32 @@ module _ {𝒞 : Setup} where
       k .silent x j (c .votes x i)
 
   -- a holder whose end a clock has not come to is live
-  pub holding-live : {s : World 𝒞} {b o f : ℕ} (x : ℕ) → Holding s b o f → s .clock x < f → Live s b o (f + S)
-  holding-live x h l = record { not-dead = λ d. omega (arith, d x); not-blocked = chosen-open (h .chosen) }
+  pub holding-live : {s : World 𝒞} {b o f : ℕ} (x : ℕ) → Holding s b o f → s .clock x < f
+      → Live s b o (f + S)
+  holding-live x h l =
+      record { not-dead = λ d. omega (arith, d x); not-blocked = chosen-open (h .chosen) }
 
-  agree-lt : {s : World 𝒞} → Invariant s → (x y : ℕ) (m n : Holder) → s .host x .named ≡ some m → s .host y .named ≡ some n →
+  agree-lt : {s : World 𝒞} → Invariant s → (x y : ℕ) (m n : Holder) → s .host x .named ≡ some m
+      → s .host y .named ≡ some n →
       m .ballot < n .ballot → m .owner ≡ n .owner
   agree-lt I x y m n p q l =
       let h = I .hosts x .named-ok m p in
       let k = I .hosts y .named-ok n q in
       I .main _ _ _ _ _ _ (h .0 .proposed) (k .0 .proposed) l (holding-live x (h .0) (h .1)) .0
 
-  pub agree : {s : World 𝒞} → Invariant s → (x y : ℕ) (m n : Holder) → s .host x .named ≡ some m → s .host y .named ≡ some n →
+  pub agree : {s : World 𝒞} → Invariant s → (x y : ℕ) (m n : Holder) → s .host x .named ≡ some m
+      → s .host y .named ≡ some n →
       m .owner ≡ n .owner
   agree {s} I x y m n p q = go (le-or-lt (n .ballot) (m .ballot)) (le-or-lt (m .ballot) (n .ballot))
     where
-      go : (n .ballot ≤ m .ballot) ⊎ (m .ballot < n .ballot) → (m .ballot ≤ n .ballot) ⊎ (n .ballot < m .ballot) → m .owner ≡ n .owner
+      go : (n .ballot ≤ m .ballot) ⊎ (m .ballot < n .ballot) → (m .ballot ≤ n .ballot)
+          ⊎ (n .ballot < m .ballot) → m .owner ≡ n .owner
       go (inr l) k = agree-lt I x y m n p q l
       go (inl l) (inr k) = sym (agree-lt I y x n m q p k)
       go (inl l) (inl k) =
           let e : m .ballot ≡ n .ballot = omega arith in
-          I .one _ _ _ _ _ (rw e at (I .hosts x .named-ok m p .0 .proposed)) (I .hosts y .named-ok n q .0 .proposed) .0
+          I .one _ _ _ _ _ (rw e at (I .hosts x .named-ok m p .0 .proposed))
+          (I .hosts y .named-ok n q .0 .proposed) .0
 
   -- ---- opening, a step, any number of steps
 
@@ -71,6 +77,7 @@ module _ {𝒞 : Setup} where
   inv-reach I (then r a) = inv-step (inv-reach I r) a
 
   -- demand 3, of the model: whatever happens after opening, two hosts that name a holder name the same owner
-  pub agreement : (c : ℕ) {s : World 𝒞} → Reach (opened c) s → (x y : ℕ) (m n : Holder) → s .host x .named ≡ some m → s .host y .named ≡ some n →
+  pub agreement : (c : ℕ) {s : World 𝒞} → Reach (opened c) s → (x y : ℕ) (m n : Holder)
+      → s .host x .named ≡ some m → s .host y .named ≡ some n →
       m .owner ≡ n .owner
   agreement c r = agree (inv-reach (inv-opened c) r)

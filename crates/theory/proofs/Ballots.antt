@@ -9,7 +9,8 @@ use mathlib.Core.List.{List, List·Memᴰ, List·Memᴰ·head, List·Memᴰ·tai
 use Rattle.theory.specs.Ballots.{pick, changed, with-one}
 
 -- what a property of the changed function asks: of the new value at the place, of the old ones elsewhere
-pub changed-all {ℓ} : {A : Type ℓ} (P : ℕ → A → Type 0) (f : ℕ → A) (h : ℕ) (v : A) → P h v → ((x : ℕ) → x ≢ h → P x (f x)) →
+pub changed-all {ℓ} : {A : Type ℓ} (P : ℕ → A → Type 0) (f : ℕ → A) (h : ℕ) (v : A) → P h v
+    → ((x : ℕ) → x ≢ h → P x (f x)) →
     (x : ℕ) → P x (changed f h v x)
 unfolding changed
 changed-all P f h v new old x = go (ℕ-discrete x h)
@@ -34,14 +35,16 @@ le-or-lt a b = go (decLe a b)
     go (yes p) = inl p
     go (no p) = inr (omega arith)
 
-pub with-old {ℓ} : {A : Type ℓ} {m : A} (o : Option A) {l : List A} → List·Memᴰ m l → List·Memᴰ m (with-one o l)
+pub with-old {ℓ} : {A : Type ℓ} {m : A} (o : Option A) {l : List A} → List·Memᴰ m l
+    → List·Memᴰ m (with-one o l)
 with-old none h = h
 with-old (some x) h = List·Memᴰ·tail h
 
 pub with-new {ℓ} : {A : Type ℓ} {m : A} {l : List A} → List·Memᴰ m (with-one (some m) l)
 with-new = List·Memᴰ·head refl
 
-pub with-cases {ℓ} : {A : Type ℓ} {m : A} (o : Option A) {l : List A} → List·Memᴰ m (with-one o l) → List·Memᴰ m l ⊎ (o ≡ some m)
+pub with-cases {ℓ} : {A : Type ℓ} {m : A} (o : Option A) {l : List A} → List·Memᴰ m (with-one o l)
+    → List·Memᴰ m l ⊎ (o ≡ some m)
 with-cases none h = inl h
 with-cases {A} {m} (some x) {l} h = go (List·Memᴰ·cases-cons h)
   where

@@ -6,8 +6,12 @@ use mathlib.Core.Path.{_≡_}
 use mathlib.Core.Logic.{_⊎_, inl, inr}
 use mathlib.Core.Option.{Option, some}
 use Rattle.theory.specs.Ballots.{tick, proposer, Lease, Holder, top}
-use Rattle.theory.specs.Model.{Setup, Message, prepareRequest, prepareResponse, proposeRequest, proposeResponse, learn, Round, idle, asking, proposing, Host, World, Sent}
-use Rattle.theory.specs.Invariant.{Voted, Proposed, Joined, Shut, Live, Chosen, Old, Below, Heard, Proposal, Holding, MessageOk, RoundOk, HostOk, Invariant}
+use Rattle.theory.specs.Model.{Setup, Message, prepareRequest, prepareResponse}
+use Rattle.theory.specs.Model.{proposeRequest, proposeResponse, learn, Round, idle, asking}
+use Rattle.theory.specs.Model.{proposing, Host, World, Sent}
+use Rattle.theory.specs.Invariant.{Voted, Proposed, Joined, Shut, Live, Chosen, Old, Below}
+use Rattle.theory.specs.Invariant.{Heard, Proposal, Holding, MessageOk, RoundOk, HostOk}
+use Rattle.theory.specs.Invariant.{Invariant}
 use Rattle.theory.proofs.Ballots.{le-or-lt}
 
 module _ {𝒞 : Setup} where
@@ -64,7 +68,8 @@ module _ {𝒞 : Setup} where
         go (inr m) (inr k) = omega (arith, I .hosts x .promised-old b (omega arith))
 
     -- who is shut does not vote
-    silent-kept : (x b o e : ℕ) → Proposed s b o e → Shut s x b e → (Voted s x b → ⊥) → Voted s' x b → ⊥
+    silent-kept : (x b o e : ℕ) → Proposed s b o e → Shut s x b e → (Voted s x b → ⊥) → Voted s' x b
+        → ⊥
     silent-kept x b o e p j n v = go (L .vote x b v)
       where
         go : Voted s x b ⊎ Fresh s x b → ⊥
@@ -74,12 +79,21 @@ module _ {𝒞 : Setup} where
             omega (arith, f .awake, f .ahead, j (f .unbound) (omega (arith, f .awake, f .ahead)))
 
     -- who has joined a higher ballot does not vote
-    pub joined-silent : (x b c o e : ℕ) → Proposed s c o e → c < b → Joined s x b → Voted s' x c → Voted s x c
+    pub joined-silent : (x b c o e : ℕ) → Proposed s c o e → c < b → Joined s x b → Voted s' x c
+        → Voted s x c
     joined-silent x b c o e p l j v = go (L .vote x c v)
       where
         go : Voted s x c ⊎ Fresh s x c → Voted s x c
         go (inl v) = v
-        go (inr f) = absurd (omega (arith, f .awake, f .ahead, end-short _ _ _ (f .proposed), j (omega (arith, f .unbound))))
+        go (inr f) =
+            absurd
+            (omega (
+              arith,
+              f .awake,
+              f .ahead,
+              end-short _ _ _ (f .proposed),
+              j (omega (arith, f .unbound)),
+            ))
 
     pub live-before : (b o e : ℕ) → Proposed s b o e → Live s' b o e → Live s b o e
     live-before b o e p l = record {
@@ -93,7 +107,8 @@ module _ {𝒞 : Setup} where
     }
 
     pub chosen-kept : (b : ℕ) → Chosen s b → Chosen s' b
-    chosen-kept b c = record { set = c .set; majority = c .majority; votes = λ x i. L .sent _ (c .votes x i) }
+    chosen-kept b c =
+        record { set = c .set; majority = c .majority; votes = λ x i. L .sent _ (c .votes x i) }
 
     pub old-kept : (b : ℕ) → Old s b → Old s' b
     old-kept b h y = omega (arith, h y, L .clock y)
@@ -102,14 +117,22 @@ module _ {𝒞 : Setup} where
     below-kept b A h a e = (L .sent _ (h a e .0), h a e .1)
 
     pub heard-kept : (x b : ℕ) (A : Option Lease) → Heard s x b A → Heard s' x b A
-    heard-kept x b A h = record { joined = joined-kept x b (h .joined); full = λ c o e p l k v. go c o e (L .proposal c o e p) l k v }
+    heard-kept x b A h =
+        record {
+          joined = joined-kept x b (h .joined);
+          full = λ c o e p l k v.
+              go c o e (L .proposal c o e p) l k v;
+        }
       where
-        go : (c o e : ℕ) → Proposed s c o e ⊎ ((x : ℕ) → Voted s' x c → ⊥) → c < b → Live s' c o e → Voted s' x c → c < top A
-        go c o e (inl p) l k v = h .full c o e p l (live-before c o e p k) (joined-silent x b c o e p l (h .joined) v)
+        go : (c o e : ℕ) → Proposed s c o e ⊎ ((x : ℕ) → Voted s' x c → ⊥) → c < b → Live s' c o e
+            → Voted s' x c → c < top A
+        go c o e (inl p) l k v =
+            h .full c o e p l (live-before c o e p k) (joined-silent x b c o e p l (h .joined) v)
         go c o e (inr n) l k v = absurd (n x v)
 
     pub holding-kept : (b o f : ℕ) → Holding s b o f → Holding s' b o f
-    holding-kept b o f h = record { proposed = L .sent _ (h .proposed); chosen = chosen-kept b (h .chosen) }
+    holding-kept b o f h =
+        record { proposed = L .sent _ (h .proposed); chosen = chosen-kept b (h .chosen) }
 
     proposal-kept : (b e : ℕ) → Proposal s b e → Proposal s' b e
     proposal-kept b e h = record {
@@ -123,22 +146,26 @@ module _ {𝒞 : Setup} where
       where
         go : s' .host (proposer b) .last ≤ tick b →
             Remembers (s .clock (proposer b)) (s .host (proposer b)) (s' .host (proposer b)) →
-            (s .host (proposer b) .last ≤ tick b) ⊎ (tick b < s .host (proposer b) .last) → tick b + T ≤ s' .host (proposer b) .wait
+            (s .host (proposer b) .last ≤ tick b) ⊎ (tick b < s .host (proposer b) .last)
+            → tick b + T ≤ s' .host (proposer b) .wait
         go l m (inl k) = omega (arith, h .spent k, L .wait (proposer b))
         go l (inl m) (inr k) = omega arith
         go l (inr m) (inr k) = omega (arith, h .old (proposer b))
 
     pub message-kept : (m : Message) → MessageOk s m → MessageOk s' m
     message-kept (prepareRequest b) h = old-kept b h
-    message-kept (prepareResponse x b A) h = record { heard = heard-kept x b A (h .heard); below = below-kept b A (h .below) }
+    message-kept (prepareResponse x b A) h =
+        record { heard = heard-kept x b A (h .heard); below = below-kept b A (h .below) }
     message-kept (proposeRequest b o e) h = proposal-kept b e h
-    message-kept (proposeResponse x b) h = record { owner = h .owner; end = h .end; proposed = L .sent _ (h .proposed) }
+    message-kept (proposeResponse x b) h =
+        record { owner = h .owner; end = h .end; proposed = L .sent _ (h .proposed) }
     message-kept (learn b o f) h = holding-kept b o f h
 
     -- ---- a host and its parts, where the host did nothing that they rest on
 
     -- what x has accepted, where x did not vote
-    pub accepted-kept-on : (x w w' : ℕ) (A A' : Option Lease) → ((b : ℕ) → Voted s' x b → Voted s x b) → w ≤ w' → top A ≤ top A' →
+    pub accepted-kept-on : (x w w' : ℕ) (A A' : Option Lease)
+        → ((b : ℕ) → Voted s' x b → Voted s x b) → w ≤ w' → top A ≤ top A' →
         ((b o e : ℕ) → Voted s x b → Proposed s b o e → Live s b o e → w < e → b < top A) →
         (b o e : ℕ) → Voted s' x b → Proposed s' b o e → Live s' b o e → w' < e → b < top A'
     accepted-kept-on x w w' A A' quiet lw la k b o e v p l g = go (L .proposal b o e p)
@@ -158,21 +185,27 @@ module _ {𝒞 : Setup} where
       below = below-kept b K (h .below);
       heard = λ y i. heard-kept y b K (h .heard y i);
     }
-    round-kept x l (proposing b o e R) mute h = record { proposed = L .sent _ (h .proposed); votes = λ y i. L .sent _ (h .votes y i) }
+    round-kept x l (proposing b o e R) mute h =
+        record { proposed = L .sent _ (h .proposed); votes = λ y i. L .sent _ (h .votes y i) }
 
     pub named-kept : (x : ℕ) (N : Option Holder) → s' .clock x ≡ s .clock x →
-        ((n : Holder) → N ≡ some n → Holding s (n .ballot) (n .owner) (n .end) × (s .clock x < n .end)) →
-        (n : Holder) → N ≡ some n → Holding s' (n .ballot) (n .owner) (n .end) × (s' .clock x < n .end)
+        ((n : Holder) → N ≡ some n → Holding s (n .ballot) (n .owner) (n .end)
+        × (s .clock x < n .end)) →
+        (n : Holder) → N ≡ some n → Holding s' (n .ballot) (n .owner) (n .end)
+        × (s' .clock x < n .end)
     named-kept x N c k n q = (holding-kept _ _ _ (k n q .0), omega (arith, k n q .1))
 
     -- a host that took no part
-    pub host-kept : (x : ℕ) (v : Host 𝒞) → s' .clock x ≡ s .clock x → ((b : ℕ) → Voted s' x b → Voted s x b) →
+    pub host-kept : (x : ℕ) (v : Host 𝒞) → s' .clock x ≡ s .clock x
+        → ((b : ℕ) → Voted s' x b → Voted s x b) →
         Mute s s' x → HostOk s x v → HostOk s' x v
     host-kept x v c quiet mute h = record {
       wait-short = omega (arith, h .wait-short);
       promised-old = λ b l. omega (arith, h .promised-old b l);
       accepted-ok = λ a q. (L .sent _ (h .accepted-ok a q .0), h .accepted-ok a q .1);
-      accepted-kept = accepted-kept-on x (v .wait) (v .wait) (v .accepted) (v .accepted) quiet (omega arith) (omega arith) (h .accepted-kept);
+      accepted-kept =
+          accepted-kept-on x (v .wait) (v .wait) (v .accepted) (v .accepted) quiet (omega arith)
+          (omega arith) (h .accepted-kept);
       round-ok = round-kept x (v .last) (v .round) mute (h .round-ok);
       named-ok = named-kept x (v .named) c (h .named-ok);
     }

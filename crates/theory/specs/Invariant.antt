@@ -9,7 +9,9 @@ use Prim.Native.Nat.{ℕ, _+_, _≤_, _<_}
 use mathlib.Core.Path.{_≡_}
 use mathlib.Core.Option.{Option, some}
 use Rattle.theory.specs.Ballots.{tick, proposer, Lease, Holder, top}
-use Rattle.theory.specs.Model.{Setup, Message, prepareRequest, prepareResponse, proposeRequest, proposeResponse, learn, Round, idle, asking, proposing, Host, World, Sent}
+use Rattle.theory.specs.Model.{Setup, Message, prepareRequest, prepareResponse}
+use Rattle.theory.specs.Model.{proposeRequest, proposeResponse, learn, Round, idle, asking}
+use Rattle.theory.specs.Model.{proposing, Host, World, Sent}
 
 module _ {𝒞 : Setup} where
   open Setup 𝒞 using (longest as T, spread as S, Hosts, In, Majority)
@@ -58,7 +60,8 @@ module _ {𝒞 : Setup} where
 
   -- the lease A is none, or a proposal with a ballot below b
   abbrev pub Below : World 𝒞 → ℕ → Option Lease → Type 0
-  Below s b A = (a : Lease) → A ≡ some a → Proposed s (a .ballot) (a .owner) (a .end) × (a .ballot < b)
+  Below s b A = (a : Lease) → A ≡ some a → Proposed s (a .ballot) (a .owner) (a .end)
+      × (a .ballot < b)
 
   -- x has joined b, and A is at least as high as every live proposal below b that x voted for
   pub record Heard (s : World 𝒞) (x b : ℕ) (A : Option Lease) : Type 0 where
@@ -123,10 +126,13 @@ module _ {𝒞 : Setup} where
   pub record HostOk (s : World 𝒞) (x : ℕ) (v : Host 𝒞) : Type 0 where
     pub wait-short : v .wait ≤ s .clock x + T + S
     pub promised-old : (b : ℕ) → b < v .promised → tick b ≤ s .clock x + S
-    pub accepted-ok : (a : Lease) → v .accepted ≡ some a → Proposed s (a .ballot) (a .owner) (a .end) × (a .ballot < v .promised)
-    pub accepted-kept : (b o e : ℕ) → Voted s x b → Proposed s b o e → Live s b o e → v .wait < e → b < top (v .accepted)
+    pub accepted-ok : (a : Lease) → v .accepted ≡ some a
+        → Proposed s (a .ballot) (a .owner) (a .end) × (a .ballot < v .promised)
+    pub accepted-kept : (b o e : ℕ) → Voted s x b → Proposed s b o e → Live s b o e → v .wait < e
+        → b < top (v .accepted)
     pub round-ok : RoundOk s x (v .last) (v .round)
-    pub named-ok : (n : Holder) → v .named ≡ some n → Holding s (n .ballot) (n .owner) (n .end) × (s .clock x < n .end)
+    pub named-ok : (n : Holder) → v .named ≡ some n → Holding s (n .ballot) (n .owner) (n .end)
+        × (s .clock x < n .end)
 
   -- ---- the invariant
 
@@ -138,4 +144,5 @@ module _ {𝒞 : Setup} where
     -- proposals with equal ballots are equal
     pub one : (b o e o' e' : ℕ) → Proposed s b o e → Proposed s b o' e' → (o ≡ o') × (e ≡ e')
     -- a proposal above a live one is for the same owner, and ends no earlier
-    pub main : (b o e b' o' e' : ℕ) → Proposed s b o e → Proposed s b' o' e' → b < b' → Live s b o e → (o ≡ o') × (e ≤ e')
+    pub main : (b o e b' o' e' : ℕ) → Proposed s b o e → Proposed s b' o' e' → b < b' → Live s b o e
+        → (o ≡ o') × (e ≤ e')

@@ -35,7 +35,8 @@ pub data Message : Type 0 where
 
 pub data Round (𝒞 : Setup) : Type 0 where
   idle : Round 𝒞
-  asking : ℕ → ℕ → 𝒞 .Hosts → Option Lease → Round 𝒞  -- ballot, duration, who replied, highest lease of the replies
+  asking : ℕ → ℕ → 𝒞 .Hosts → Option Lease
+      → Round 𝒞  -- ballot, duration, who replied, highest lease of the replies
   proposing : ℕ → ℕ → ℕ → 𝒞 .Hosts → Round 𝒞  -- ballot, owner, keepers' end, who replied
 
 -- `promised` is one more than the promised ballot, and `last` one more than the last ballot's tick; 0 is none
@@ -76,7 +77,8 @@ pub record Higher (K A K' : Option Lease) : Type 0 where
 pub data Choice (p now ours : ℕ) (K : Option Lease) : ℕ → ℕ → Type 0 where
   free : K ≡ none → Choice p now ours K p ours
   over : (a : Lease) → K ≡ some a → Expired a now → Choice p now ours K p ours
-  renew : (a : Lease) (e : ℕ) → K ≡ some a → a .owner ≡ p → ours ≤ e → a .end ≤ e → (e ≡ ours) ⊎ (e ≡ a .end) → Choice p now ours K p e
+  renew : (a : Lease) (e : ℕ) → K ≡ some a → a .owner ≡ p → ours ≤ e → a .end ≤ e → (e ≡ ours)
+      ⊎ (e ≡ a .end) → Choice p now ours K p e
   other : (a : Lease) → K ≡ some a → Choice p now ours K (a .owner) (a .end)
 
 module _ {𝒞 : Setup} where
@@ -99,16 +101,48 @@ module _ {𝒞 : Setup} where
   opened c = record { clock = λ x. c; host = λ x. restarted c; sent = [] }
 
   abbrev pub withRound : Host 𝒞 → Round 𝒞 → Host 𝒞
-  withRound v r = record { wait = v .wait; promised = v .promised; last = v .last; accepted = v .accepted; round = r; named = v .named }
+  withRound v r =
+      record {
+        wait = v .wait;
+        promised = v .promised;
+        last = v .last;
+        accepted = v .accepted;
+        round = r;
+        named = v .named;
+      }
 
   abbrev pub withAsking : Host 𝒞 → ℕ → Round 𝒞 → Host 𝒞
-  withAsking v l r = record { wait = v .wait; promised = v .promised; last = l; accepted = v .accepted; round = r; named = v .named }
+  withAsking v l r =
+      record {
+        wait = v .wait;
+        promised = v .promised;
+        last = l;
+        accepted = v .accepted;
+        round = r;
+        named = v .named;
+      }
 
   abbrev pub withVote : Host 𝒞 → ℕ → Option Lease → Host 𝒞
-  withVote v p a = record { wait = v .wait; promised = p; last = v .last; accepted = a; round = v .round; named = v .named }
+  withVote v p a =
+      record {
+        wait = v .wait;
+        promised = p;
+        last = v .last;
+        accepted = a;
+        round = v .round;
+        named = v .named;
+      }
 
   abbrev pub withHolder : Host 𝒞 → Holder → Host 𝒞
-  withHolder v n = record { wait = v .wait; promised = v .promised; last = v .last; accepted = v .accepted; round = v .round; named = some n }
+  withHolder v n =
+      record {
+        wait = v .wait;
+        promised = v .promised;
+        last = v .last;
+        accepted = v .accepted;
+        round = v .round;
+        named = some n;
+      }
 
   -- accepting a proposal promises its ballot
   abbrev pub accepting : Host 𝒞 → ℕ → ℕ → ℕ → Host 𝒞
@@ -134,37 +168,46 @@ module _ {𝒞 : Setup} where
 
   -- What the host h may do, when its clock is c, it is v, and l are the messages ever sent: the host that it becomes, and the message
   -- that it sends.
-  pub data Act (c : ℕ) (v : Host 𝒞) (l : List Message) (h : ℕ) : Host 𝒞 → Option Message → Type 0 where
+  pub data Act (c : ℕ) (v : Host 𝒞) (l : List Message) (h : ℕ) : Host 𝒞 → Option Message
+      → Type 0 where
     restart : Act c v l h (restarted c) none
     giveUp : Act c v l h (withRound v idle) none
     start :
-        (b d : ℕ) (R : Hosts) → tick b ≡ nextTick v c → proposer b ≡ h → ((x : ℕ) → In x R → ⊥) → v .wait ≤ c →
+        (b d : ℕ) (R : Hosts) → tick b ≡ nextTick v c → proposer b ≡ h → ((x : ℕ) → In x R → ⊥)
+        → v .wait ≤ c →
         NewTick v c → 1 ≤ d → d + S ≤ T →
         Act c v l h (withAsking v (nextTick v c + 1) (asking b d R none)) (some (prepareRequest b))
     promise :
         (b : ℕ) → List·Memᴰ (prepareRequest b) l → v .wait ≤ c → Above v b →
         Act c v l h (withVote v (b + 1) (v .accepted)) (some (prepareResponse h b (v .accepted)))
     hear :
-        (b d : ℕ) (R R' : Hosts) (K A K' : Option Lease) (x : ℕ) → v .round ≡ asking b d R K → List·Memᴰ (prepareResponse x b A) l →
+        (b d : ℕ) (R R' : Hosts) (K A K' : Option Lease) (x : ℕ) → v .round ≡ asking b d R K
+        → List·Memᴰ (prepareResponse x b A) l →
         ((y : ℕ) → In y R' → (y ≡ x) ⊎ In y R) → (K' ≡ K) ⊎ (K' ≡ A) → Higher K A K' →
         Act c v l h (withRound v (asking b d R' K')) none
     propose :
-        (b d o e : ℕ) (R R' : Hosts) (K : Option Lease) → v .round ≡ asking b d R K → Majority R → Choice h c (tick b + d + S) K o e →
-        ((x : ℕ) → In x R' → ⊥) → Act c v l h (withRound v (proposing b o e R')) (some (proposeRequest b o e))
+        (b d o e : ℕ) (R R' : Hosts) (K : Option Lease) → v .round ≡ asking b d R K → Majority R
+        → Choice h c (tick b + d + S) K o e →
+        ((x : ℕ) → In x R' → ⊥)
+        → Act c v l h (withRound v (proposing b o e R')) (some (proposeRequest b o e))
     accept :
         (b o e : ℕ) → List·Memᴰ (proposeRequest b o e) l → v .wait ≤ c → c < e → NotBelow v b →
         Act c v l h (accepting v b o e) (some (proposeResponse h b))
     count :
-        (b o e : ℕ) (R R' : Hosts) (x : ℕ) → v .round ≡ proposing b o e R → List·Memᴰ (proposeResponse x b) l →
+        (b o e : ℕ) (R R' : Hosts) (x : ℕ) → v .round ≡ proposing b o e R
+        → List·Memᴰ (proposeResponse x b) l →
         ((y : ℕ) → In y R' → (y ≡ x) ⊎ In y R) → Act c v l h (withRound v (proposing b o e R')) none
     tell :
-        (b o e f : ℕ) (R : Hosts) → v .round ≡ proposing b o e R → Majority R → HoldersEnd S e f → Act c v l h v (some (learn b o f))
+        (b o e f : ℕ) (R : Hosts) → v .round ≡ proposing b o e R → Majority R → HoldersEnd S e f
+        → Act c v l h v (some (learn b o f))
     name :
-        (b o f : ℕ) → List·Memᴰ (learn b o f) l → c < f → Act c v l h (withHolder v (record { ballot = b; owner = o; end = f })) none
+        (b o f : ℕ) → List·Memᴰ (learn b o f) l → c < f
+        → Act c v l h (withHolder v (record { ballot = b; owner = o; end = f })) none
 
   -- the world after such a step
   abbrev pub put : World 𝒞 → ℕ → Host 𝒞 → Option Message → World 𝒞
-  put s h v m = record { clock = s .clock; host = changed (s .host) h v; sent = with-one m (s .sent) }
+  put s h v m =
+      record { clock = s .clock; host = changed (s .host) h v; sent = with-one m (s .sent) }
 
   -- What becomes of a host v as its clock goes from c to c': an accepted lease may be dropped if its end has come; a named holder may
   -- be dropped, and is dropped if its end has come, unless the clock stood still.
@@ -174,13 +217,15 @@ module _ {𝒞 : Setup} where
     pub same-last : w .last ≡ v .last
     pub same-round : w .round ≡ v .round
     pub accepted-aged : AgedLease c' (v .accepted) (w .accepted)
-    pub named-aged : (n : Holder) → w .named ≡ some n → (v .named ≡ some n) × ((c' ≡ c) ⊎ (c' < n .end))
+    pub named-aged : (n : Holder) → w .named ≡ some n → (v .named ≡ some n)
+        × ((c' ≡ c) ⊎ (c' < n .end))
 
   abbrev pub aged : World 𝒞 → (ℕ → ℕ) → (ℕ → Host 𝒞) → World 𝒞
   aged s c f = record { clock = c; host = f; sent = s .sent }
 
   pub data Step (s : World 𝒞) : World 𝒞 → Type 0 where
-    act : (h : ℕ) (v : Host 𝒞) (m : Option Message) → Act (s .clock h) (s .host h) (s .sent) h v m → Step s (put s h v m)
+    act : (h : ℕ) (v : Host 𝒞) (m : Option Message) → Act (s .clock h) (s .host h) (s .sent) h v m
+        → Step s (put s h v m)
     age :
         (c : ℕ → ℕ) (f : ℕ → Host 𝒞) → ((x : ℕ) → s .clock x ≤ c x) → ((x y : ℕ) → c x ≤ c y + S) →
         ((x : ℕ) → Aged (s .clock x) (c x) (s .host x) (f x)) → Step s (aged s c f)

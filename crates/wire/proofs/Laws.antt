@@ -25,17 +25,22 @@ le-length (suc w) v = ap suc (le-length w (v / 256))
 -- ---- reading
 
 -- the number in w bytes is below 2 ^ (8 * w)
-pub number-below : (s : List ℕ) (at w : ℕ) → ((i : ℕ) → getD s i 0 < 256) → numberAt s at w < 2 ^ (8 * w)
+pub number-below : (s : List ℕ) (at w : ℕ) → ((i : ℕ) → getD s i 0 < 256)
+    → numberAt s at w < 2 ^ (8 * w)
 unfolding numberAt
 number-below s at zero h = lit< tt
 number-below s at (suc w) h = rw (pow-byte w) (omega (arith, h at, number-below s (suc at) w h))
 
 -- and fits 64 bits where w is at most 8
-pub number-fits : (s : List ℕ) (at w : ℕ) → ((i : ℕ) → getD s i 0 < 256) → w ≤ 8 → numberAt s at w < 2 ^ 64
-number-fits s at w h k = lt-of-lt-of-le (number-below s at w h) (pow-mono {i = 8 * w} {j = 64} (omega arith))
+pub number-fits : (s : List ℕ) (at w : ℕ) → ((i : ℕ) → getD s i 0 < 256) → w ≤ 8
+    → numberAt s at w < 2 ^ 64
+number-fits s at w h k =
+    lt-of-lt-of-le (number-below s at w h) (pow-mono {i = 8 * w} {j = 64} (omega arith))
 
 -- the byte in front of a number makes it one byte longer
-pub number-front : (s : List ℕ) (at w i : ℕ) → 0 < i → i ≤ w → getD s (at + (i - 1)) 0 + 256 * numberAt s (at + i) (w - i) ≡ numberAt s (at + (i - 1)) (w - (i - 1))
+pub number-front : (s : List ℕ) (at w i : ℕ) → 0 < i → i ≤ w
+    → getD s (at + (i - 1)) 0 + 256 * numberAt s (at + i) (w - i)
+    ≡ numberAt s (at + (i - 1)) (w - (i - 1))
 unfolding numberAt
 number-front s at w i p q =
     let e : w - (i - 1) ≡ suc (w - i) = omega arith in
@@ -56,7 +61,8 @@ number-past p q at (suc w) =
     rw (getD-append-add p q at 0, e, number-past p q (suc at) w)
 
 -- a number within a list's first part does not depend on the rest
-pub number-within : (p q : List ℕ) (at w : ℕ) → at + w ≤ length p → numberAt (p ++ q) at w ≡ numberAt p at w
+pub number-within : (p q : List ℕ) (at w : ℕ) → at + w ≤ length p
+    → numberAt (p ++ q) at w ≡ numberAt p at w
 unfolding numberAt
 number-within p q at zero h = refl
 number-within p q at (suc w) h =
@@ -71,10 +77,12 @@ unfolding numberAt le
 number-le zero v t h = omega (arith, h)
 number-le (suc w) v t h =
     let k : v < 256 * 2 ^ (8 * w) = rw pow-byte at h in
-    rw (number-past (v % 256 ∷ []) (le w (v / 256) ++ t) 0 w, number-le w (v / 256) t (omega arith)) (omega arith)
+    rw (number-past (v % 256 ∷ []) (le w (v / 256) ++ t) 0 w, number-le w (v / 256) t (omega arith))
+    (omega arith)
 
 -- what was read is written: the bytes of the number at a place are the bytes there
-pub le-number : (s : List ℕ) (at w : ℕ) → ((i : ℕ) → getD s i 0 < 256) → at + w ≤ length s → le w (numberAt s at w) ≡ take w (drop at s)
+pub le-number : (s : List ℕ) (at w : ℕ) → ((i : ℕ) → getD s i 0 < 256) → at + w ≤ length s
+    → le w (numberAt s at w) ≡ take w (drop at s)
 unfolding le numberAt
 le-number s at zero h k = refl
 le-number s at (suc w) h k =
@@ -86,7 +94,8 @@ le-number s at (suc w) h k =
     rw (e, f, drop-cons s at 0 l, le-number s (suc at) w h (omega arith))
 
 -- a number's bytes and a run of stores after them are one run
-pub sets-le : (l : List ℕ) (at w v : ℕ) (b : List ℕ) → sets (sets l at (le w v)) (at + w) b ≡ sets l at (le w v ++ b)
+pub sets-le : (l : List ℕ) (at w v : ℕ) (b : List ℕ)
+    → sets (sets l at (le w v)) (at + w) b ≡ sets l at (le w v ++ b)
 sets-le l at w v b = rw le-length at (sets-append l at (le w v) b)
 
 -- ---- several numbers end to end
@@ -106,7 +115,8 @@ Fits [] (v ∷ vs) = ⊥
 Fits (w ∷ ws) [] = ⊥
 Fits (w ∷ ws) (v ∷ vs) = (v < 2 ^ (8 * w)) × Fits ws vs
 
-numbers-past : (p s ws : List ℕ) (at : ℕ) → numbersAt (p ++ s) (length p + at) ws ≡ numbersAt s at ws
+numbers-past : (p s ws : List ℕ) (at : ℕ)
+    → numbersAt (p ++ s) (length p + at) ws ≡ numbersAt s at ws
 unfolding numbersAt
 numbers-past p s [] at = refl
 numbers-past p s (w ∷ ws) at =
@@ -122,18 +132,31 @@ numbers-packed (w ∷ ws) [] t f = absurd f
 numbers-packed (w ∷ ws) (v ∷ vs) t f =
     let r = packed ws vs ++ t in
     let e : 0 + w ≡ length (le w v) + 0 = omega (arith, le-length w v) in
-    rw (append-assoc (le w v) (packed ws vs) t, number-le w v r (f .0), e, numbers-past (le w v) r ws 0, numbers-packed ws vs t (f .1))
+    rw (
+      append-assoc (le w v) (packed ws vs) t,
+      number-le w v r (f .0),
+      e,
+      numbers-past (le w v) r ws 0,
+      numbers-packed ws vs t (f .1),
+    )
 
 -- what was read is packed: the bytes that were there
-pub packed-numbers : (s : List ℕ) (at : ℕ) (ws : List ℕ) → ((i : ℕ) → getD s i 0 < 256) → at + total ws ≤ length s → packed ws (numbersAt s at ws) ≡ take (total ws) (drop at s)
+pub packed-numbers : (s : List ℕ) (at : ℕ) (ws : List ℕ) → ((i : ℕ) → getD s i 0 < 256)
+    → at + total ws ≤ length s → packed ws (numbersAt s at ws) ≡ take (total ws) (drop at s)
 unfolding numbersAt packed total
 packed-numbers s at [] h k = refl
 packed-numbers s at (w ∷ ws) h k =
     let j : at + w + total ws ≤ length s = omega arith in
-    rw (packed-numbers s (at + w) ws h j, le-number s at w h (omega arith), take-add w (total ws) (drop at s), drop-drop w at s)
+    rw (
+      packed-numbers s (at + w) ws h j,
+      le-number s at w h (omega arith),
+      take-add w (total ws) (drop at s),
+      drop-drop w at s,
+    )
 
 -- numbers within a list's first part do not depend on the rest
-pub numbers-within : (p q : List ℕ) (at : ℕ) (ws : List ℕ) → at + total ws ≤ length p → numbersAt (p ++ q) at ws ≡ numbersAt p at ws
+pub numbers-within : (p q : List ℕ) (at : ℕ) (ws : List ℕ) → at + total ws ≤ length p
+    → numbersAt (p ++ q) at ws ≡ numbersAt p at ws
 unfolding numbersAt total
 numbers-within p q at [] h = refl
 numbers-within p q at (w ∷ ws) h =
@@ -141,6 +164,7 @@ numbers-within p q at (w ∷ ws) h =
     rw (number-within p q at w (omega arith), numbers-within p q (at + w) ws k)
 
 -- two numbers stored one after the other are the two packed
-pub sets-two : (l : List ℕ) (at w v u x : ℕ) → sets (sets l at (le w v)) (at + w) (le u x) ≡ sets l at (packed (w ∷ u ∷ []) (v ∷ x ∷ []))
+pub sets-two : (l : List ℕ) (at w v u x : ℕ)
+    → sets (sets l at (le w v)) (at + w) (le u x) ≡ sets l at (packed (w ∷ u ∷ []) (v ∷ x ∷ []))
 unfolding packed
 sets-two l at w v u x = rw (append-nil (le u x)) (sets-le l at w v (le u x))
