@@ -1,3 +1,5 @@
+-- `Host::on_propose_request`: a lease that may be accepted is, and the vote goes to the ballot's
+-- host; any other does nothing.
 use borrow.Author.Tests.{not-false, not-true}
 use Rattle.host.specs.Steps.{onProposeRequest}
 use borrow.Author.Needs.{needs}
