@@ -1,3 +1,4 @@
+-- Laws of frames: their answers, reading back what was written, sets of receivers, the claims.
 pub mod Answers
 pub mod Round
 pub mod Only

@@ -1,3 +1,4 @@
+-- Laws of a host's step: its limits, refusals and outcomes, what it sends, and naming by majority.
 pub mod HostLimits
 pub mod Writable
 pub mod Refusals

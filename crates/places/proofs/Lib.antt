@@ -1,3 +1,4 @@
+-- Laws of the nine places for hosts: their limits, the walks over them, and what opening sets.
 pub mod PlaceLimits
 pub mod Each
 pub mod Walks

@@ -1,3 +1,4 @@
+-- Agreement in the theory: each step keeps the invariant, and under it hosts name no two owners.
 pub mod Ballots
 pub mod Later
 pub mod Act

@@ -1,3 +1,4 @@
+-- `change_of`: each event has the change of its row, by a step of the host or by its slot.
 use borrow.Author.Needs.{needs}
 use Rattle.change.specs.Parts.{changeOf}
 use Rattle.change.proofs.change_of.Statement.{statement}

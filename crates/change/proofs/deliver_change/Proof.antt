@@ -1,3 +1,4 @@
+-- `deliver_change`: 12 from an empty slot; else the host receives, and the slot is freed.
 use borrow.Author.Needs.{needs}
 use Rattle.change.specs.Parts.{deliverChange}
 use Rattle.change.proofs.deliver_change.Statement.{statement}

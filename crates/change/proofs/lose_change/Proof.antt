@@ -1,3 +1,4 @@
+-- `lose_change`: 12 from an empty slot; else the slot is freed, and the host stays as it is.
 use borrow.Author.Needs.{needs}
 use Rattle.change.specs.Parts.{loseChange}
 use Rattle.change.proofs.lose_change.Statement.{statement}

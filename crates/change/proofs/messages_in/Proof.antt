@@ -1,3 +1,4 @@
+-- `messages_in`: one message for each receiver, or none where nothing is sent.
 use borrow.Author.Needs.{needs}
 use Rattle.cell.specs.Events.{messagesIn}
 use Rattle.change.proofs.messages_in.Statement.{statement}

@@ -1,3 +1,5 @@
+-- `repeat_change`: 12 from an empty slot; else its message once more, to its own target, which the
+-- contract keeps below 16, where `single_of` has a bit for it.
 use borrow.Author.Needs.{needs}
 use Rattle.change.specs.Parts.{repeatChange}
 use Rattle.change.proofs.repeat_change.Statement.{statement}

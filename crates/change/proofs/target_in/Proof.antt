@@ -1,3 +1,4 @@
+-- `target_in`: the target of the message that a slot holds; 0 for an empty one.
 use borrow.Author.Needs.{needs}
 use Rattle.change.proofs.target_in.Statement.{statement}
 use Rattle.change.proofs.target_in.Tie as tie

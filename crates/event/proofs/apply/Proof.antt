@@ -1,3 +1,4 @@
+-- `apply` is `eventOf` of any cell: 1 past the limits (`past-limits`), within them `apply_within`.
 use borrow.Author.Needs.{needs}
 use borrow.Author.Tests.{not-true, not-false}
 use mathlib.Core.Path.{sym, _∙_}

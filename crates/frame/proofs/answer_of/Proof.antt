@@ -1,3 +1,4 @@
+-- `answer_of`: 1, then what was found of the message, then 8 where the bytes do not fit.
 use borrow.Author.Tests.{eq-eqb, ne-eqb, le-leb, lt-leb, not-true, not-false}
 use Rattle.base.specs.Refusals.{firstOf}
 use Rattle.frame.specs.Parts.{answerOf}

@@ -1,3 +1,5 @@
+-- `put_if`: where it writes, len is the length of the frame, so there is room and the next one goes
+-- right behind it; where it does not, nothing moves.
 use mathlib.Core.Path.{_≡_, sym, _∙_}
 use Prim.Native.Nat.{_+_, _≤_}
 use native.Mathlib.Omega.{arith}

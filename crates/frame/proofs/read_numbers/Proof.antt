@@ -1,3 +1,4 @@
+-- `read_numbers`: the message where nothing is refused in its numbers, else the refusal's number.
 use borrow.Author.Tests.{eq-eqb, ne-eqb}
 use borrow.Author.Needs.{needs}
 use Rattle.frame.proofs.read_numbers.Statement.{statement}

@@ -1,3 +1,4 @@
+-- `total_of` is a product that does not wrap: at most 16 hosts, each with the longest frame.
 use Prim.Native.Nat.{_≤_}
 use native.Mathlib.Nat.{mul-le-mul}
 use native.Mathlib.Omega.{arith}

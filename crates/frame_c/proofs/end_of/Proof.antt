@@ -1,3 +1,4 @@
+-- `end_of`: the holder's end of a learn message, the keepers' end of any other.
 use borrow.Author.Tests.{eq-eqb, ne-eqb}
 use Rattle.frame_c.specs.Interface.{endOf}
 use Rattle.frame_c.proofs.end_of.Statement.{statement}

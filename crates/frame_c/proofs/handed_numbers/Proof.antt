@@ -1,3 +1,4 @@
+-- `handed_numbers`: the one end handed in is the holder's of a learn message, else the keepers'.
 use borrow.Author.Tests.{eq-eqb, ne-eqb}
 use Rattle.frame_c.specs.Interface.{handedNumbers}
 use borrow.Author.Needs.{needs}

@@ -1,3 +1,4 @@
+-- `kind_answer`: 1 where the cell does not fit, 3 where the kind is none, else 0.
 use borrow.Author.Tests.{not-true, not-false}
 use Rattle.base.specs.Refusals.{firstOf}
 use Rattle.frame_c.specs.Parts.{kindAnswer}

@@ -1,3 +1,5 @@
+-- `lease_frame_read` hands out what `frame::read` found: the answer, the nine numbers and the
+-- length. A refusal leaves the numbers as they were, with a length of 0.
 use Rattle.base.proofs.Tests.{told}
 use borrow.Author.Needs.{needs}
 use Rattle.frame_c.proofs.lease_frame_read.Statement.{statement}

@@ -1,3 +1,4 @@
+-- `lease_frame_write` is `write_handed` of the numbers handed in, its length stored beside it.
 use borrow.Author.Needs.{needs}
 use Rattle.frame_c.proofs.lease_frame_write.Statement.{statement}
 use Rattle.frame_c.proofs.lease_frame_write.Tie as tie

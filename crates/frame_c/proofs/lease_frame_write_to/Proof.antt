@@ -1,3 +1,4 @@
+-- `lease_frame_write_to` is `write_handed_to` of the numbers handed in, with a target of 0.
 use borrow.Author.Needs.{needs}
 use Rattle.frame_c.proofs.lease_frame_write_to.Statement.{statement}
 use Rattle.frame_c.proofs.lease_frame_write_to.Tie as tie

@@ -1,3 +1,4 @@
+-- `write_handed`: 1 and 3 come first and leave the bytes, then it is `frame::write` (`kind-found`).
 use mathlib.Core.Path.{_≡_}
 use lib.ListN.{length}
 use borrow.Author.Tests.{eq-eqb, ne-eqb}

@@ -1,3 +1,4 @@
+-- `write_handed_to`: 1 and 3 come before what `frame::write_to` refuses (`kind-found`).
 use mathlib.Core.Path.{_≡_}
 use lib.ListN.{length}
 use borrow.Author.Tests.{eq-eqb, ne-eqb}

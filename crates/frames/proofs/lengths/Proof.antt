@@ -1,3 +1,4 @@
+-- `lengths` ends, and its count, at most one a turn, does not wrap.
 use Prim.Native.Nat.{_-_, _≤_}
 use borrow.Author.Needs.{needs}
 use Rattle.frames.proofs.lengths.Statement.{statement}

@@ -1,3 +1,4 @@
+-- `lengths_of_kind` ends after the answers 0 to 8.
 use Prim.Native.Nat.{_-_, _≤_}
 use borrow.Author.Needs.{needs}
 use Rattle.frames.proofs.lengths_of_kind.Statement.{statement}

@@ -1,3 +1,4 @@
+-- `host_ok`: settings, number, clock, wait and state are within limits, one after the other.
 use Rattle.base.specs.Lists.{allOf}
 use Rattle.host.specs.Steps.{hostOk, lastWait}
 use Rattle.message.specs.Message.{lastTick}

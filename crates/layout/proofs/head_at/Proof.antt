@@ -1,3 +1,4 @@
+-- `head_at` reads sender, target and ballot: the code's offsets are those of the list of fields.
 use Rattle.layout.specs.Layout.{offsetIn}
 use borrow.Author.Needs.{needs}
 use Rattle.layout.proofs.head_at.Statement.{statement}

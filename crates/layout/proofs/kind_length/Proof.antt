@@ -1,3 +1,4 @@
+-- `kind_length`: the three lengths are the sums of the widths of the fields that a kind has.
 use borrow.Author.Tests.{ne-eqb}
 use Rattle.wire.specs.Wire.{total}
 use Rattle.layout.specs.Layout.{moreOf, kindLength}

@@ -1,3 +1,4 @@
+-- `lease_at` reads accepted ballot, owner and keepers' end at the offsets of kind 3.
 use Rattle.wire.specs.Wire.{total}
 use Rattle.layout.specs.Layout.{moreOf, kindLength, offsetIn}
 use borrow.Author.Needs.{needs}

@@ -1,3 +1,5 @@
+-- `numbers_at` reads the fields that a kind has and gives 0 for the others; each branch knows its
+-- kind, and so that its fields lie within the bytes.
 use native.Mathlib.Omega.{arith}
 use borrow.Author.Tests.{ne-eqb}
 use Rattle.wire.specs.Wire.{total, numbersAt}

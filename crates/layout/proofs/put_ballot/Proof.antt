@@ -1,3 +1,4 @@
+-- `put_ballot` stores a tick of 8 bytes and a host of 1; two stores in a row are one (`sets-two`).
 use Rattle.wire.proofs.Laws.{sets-two}
 use borrow.Author.Needs.{needs}
 use Rattle.layout.proofs.put_ballot.Statement.{statement}

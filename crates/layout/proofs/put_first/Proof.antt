@@ -1,3 +1,5 @@
+-- `put_first` stores route, ballot and what follows the head: together the frame's bytes. A frame
+-- of the head's length has no more fields (`no-more`).
 use mathlib.Core.Path.{sym, _∙_}
 use Rattle.wire.specs.Wire.{le, packed, total}
 use Rattle.layout.specs.Layout.{kindLength, bytesOf}

@@ -1,3 +1,4 @@
+-- `put_more` stores the fields after the head: those of kinds 3, 4 and 6; other kinds have none.
 use native.Mathlib.Omega.{arith}
 use borrow.Author.Tests.{ne-eqb}
 use Rattle.wire.specs.Wire.{le, packed, total}

@@ -1,3 +1,4 @@
+-- `put_numbers`: a frame put at the front of the bytes from `at` on is put at `at` (`sets-part`).
 use Prim.Native.Nat.{_+_, _≤_}
 use native.Mathlib.Omega.{arith}
 use lib.ListN.{length}

@@ -1,3 +1,4 @@
+-- `put_route` stores length, kind, sender and target: four stores, each where the last one ended.
 use Rattle.wire.specs.Wire.{le, packed}
 use borrow.Author.Needs.{needs}
 use Rattle.layout.proofs.put_route.Statement.{statement}

@@ -1,3 +1,4 @@
+-- `put_value` stores an owner of 1 byte and an end of 8; two stores in a row are one (`sets-two`).
 use Rattle.wire.proofs.Laws.{sets-two}
 use borrow.Author.Needs.{needs}
 use Rattle.layout.proofs.put_value.Statement.{statement}

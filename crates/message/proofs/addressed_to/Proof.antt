@@ -1,3 +1,4 @@
+-- `addressed_to` is the message of the same numbers, but for the target.
 use Rattle.message.specs.Message.{addressedTo}
 use borrow.Author.Needs.{needs}
 use Rattle.message.proofs.addressed_to.Statement.{statement}

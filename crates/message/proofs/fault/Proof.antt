@@ -1,3 +1,4 @@
+-- `fault` is `faultOf`: the common tests, with a target below n and the party of `partyFits`.
 use Rattle.message.specs.Faults.{faultOf}
 use borrow.Author.Needs.{needs}
 use Rattle.message.proofs.fault.Statement.{statement}

@@ -1,3 +1,4 @@
+-- `fault_to` is `faultTo`: the common tests, with receivers below n and the party of `partyFitsTo`.
 use Rattle.message.specs.Faults.{faultTo}
 use borrow.Author.Needs.{needs}
 use Rattle.message.proofs.fault_to.Statement.{statement}

@@ -1,3 +1,4 @@
+-- `fault_with`: 5, 6, 7 or 0, the nested tests in the order of `messageRefusals`.
 use Rattle.base.specs.Refusals.{firstOf}
 use Rattle.base.specs.Lists.{allOf}
 use Rattle.base.proofs.Tests.{told}

@@ -1,3 +1,4 @@
+-- `hosts_fit` is `hostTests` written out: every host below n, the target as it was found.
 use mathlib.Core.Path.{refl}
 use Rattle.base.specs.Lists.{allOf}
 use Rattle.message.proofs.hosts_fit.Statement.{statement}

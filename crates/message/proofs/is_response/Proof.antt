@@ -1,3 +1,4 @@
+-- `is_response`: the three kinds that answer a request match, and any other number is none.
 use borrow.Author.Tests.{ne-eqb}
 use Rattle.message.specs.Message.{isResponse}
 use Rattle.message.proofs.is_response.Statement.{statement}

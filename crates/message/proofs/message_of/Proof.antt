@@ -1,3 +1,4 @@
+-- `message_of`: kinds 1 to 5 each give their message, and any other number a learn message.
 use borrow.Author.Tests.{ne-eqb}
 use Rattle.message.specs.Message.{messageOf}
 use borrow.Author.Needs.{needs}

@@ -1,3 +1,4 @@
+-- `numbers_of` gives the numbers of each of the six messages, and 0 for those that it lacks.
 use mathlib.Core.Path.{sym, ap, _∙_}
 use Rattle.message.specs.Message.{numbersOf}
 use borrow.Author.Needs.{needs}

@@ -1,3 +1,4 @@
+-- `party_fits`: the ballot's host is the target of a response, and the sender of any other kind.
 use Rattle.message.specs.Faults.{partyFits}
 use borrow.Author.Needs.{needs}
 use Rattle.message.proofs.party_fits.Statement.{statement}

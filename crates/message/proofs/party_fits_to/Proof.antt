@@ -1,3 +1,4 @@
+-- `party_fits_to`: a response has no receiver but the ballot's host; any other is from that host.
 use Rattle.message.specs.Faults.{partyFitsTo}
 use borrow.Author.Needs.{needs}
 use Rattle.message.proofs.party_fits_to.Statement.{statement}

@@ -1,3 +1,4 @@
+-- `target_of` is the target among a message's numbers.
 use borrow.Author.Needs.{needs}
 use Rattle.message.proofs.target_of.Statement.{statement}
 use Rattle.message.proofs.target_of.Tie as tie

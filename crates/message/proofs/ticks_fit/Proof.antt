@@ -1,3 +1,4 @@
+-- `ticks_fit` is `tickTests` written out: ticks up to 2^48, ends up to 2^48 + 2^31.
 use mathlib.Core.Path.{refl}
 use Rattle.base.specs.Lists.{allOf}
 use Rattle.message.specs.Message.{lastTick, lastEnd}

@@ -1,3 +1,5 @@
+-- `clocks_ok`: the walk finds the earliest and the latest clock of the first i hosts (`Span`), and
+-- these two are at most S apart exactly where any two clocks are (`span-clocks`).
 use borrow.Author.Needs.{needs}
 use mathlib.Core.Path.{_≡_, refl, _∙_}
 use Prim.Native.Nat.{_≤_, _-_}

@@ -1,3 +1,5 @@
+-- `new_host`: below n a restarted host, which is not refused since settings and clock are within
+-- limits (`unwaited-restarts`); at n or above the blank host.
 use borrow.Author.Needs.{needs}
 use borrow.Author.Tests.{lt-ltb, le-ltb}
 use Rattle.places.specs.Places.{newHost}

@@ -1,3 +1,4 @@
+-- `new_hosts` is the list of nine, place by place what `new_host` gives.
 use borrow.Author.Needs.{needs}
 use Rattle.places.proofs.new_hosts.Statement.{statement}
 use Rattle.places.proofs.new_hosts.Tie as tie

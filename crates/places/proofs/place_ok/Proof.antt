@@ -1,3 +1,4 @@
+-- `place_ok`: below n the place's own number, clock and wait within limits; at n or above all 0.
 use borrow.Author.Needs.{needs}
 use borrow.Author.Tests.{lt-ltb, le-ltb}
 use Rattle.base.specs.Lists.{allOf}

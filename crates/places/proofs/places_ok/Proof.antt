@@ -1,3 +1,5 @@
+-- `places_ok`: every place is within its limits. At place i the answer for all is the answer for
+-- those from i on (`Walked`), and the first place that fails ends the walk.
 use borrow.Author.Needs.{needs}
 use Prim.Native.Nat.{_-_}
 use mathlib.Core.Path.{sym}

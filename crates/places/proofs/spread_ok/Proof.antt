@@ -1,3 +1,4 @@
+-- `spread_ok` compares the latest clock less the earliest with S; the difference does not wrap.
 use mathlib.Core.Path.{refl}
 use borrow.Author.Needs.{needs}
 use Rattle.places.proofs.spread_ok.Statement.{statement}

@@ -1,3 +1,4 @@
+-- `state_at_ok`: below n the state is within limits, at n or above it is blank.
 use borrow.Author.Needs.{needs}
 use borrow.Author.Tests.{lt-ltb, le-ltb}
 use Rattle.places.specs.Places.{stateAtOk}

@@ -1,3 +1,4 @@
+-- `states_ok`: the walk of `places_ok`, over the states that the hosts keep.
 use borrow.Author.Needs.{needs}
 use Prim.Native.Nat.{_-_}
 use mathlib.Core.Path.{sym}

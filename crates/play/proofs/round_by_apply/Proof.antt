@@ -1,3 +1,4 @@
+-- `round_by_apply` ends after fourteen events, and the place it looks at is one of the nine.
 use borrow.Author.Needs.{needs}
 use Prim.Native.Nat.{_≤_, _-_}
 use Rattle.play.proofs.round_by_apply.Statement.{statement}

@@ -1,3 +1,5 @@
+-- `round_within` carries the cell's limits: opening gives a cell within them and each event keeps
+-- it there (`kept-event`), which is what `apply_within` asks for.
 use borrow.Author.Needs.{needs}
 use Prim.Native.Nat.{_≤_, _-_}
 use native.Mathlib.Omega.{arith}

@@ -1,3 +1,4 @@
+-- `rounds_by_apply` ends after 20,000 rounds, and its counter does not wrap.
 use borrow.Author.Needs.{needs}
 use Prim.Native.Nat.{_≤_, _-_}
 use Rattle.play.proofs.rounds_by_apply.Statement.{statement}

@@ -1,3 +1,4 @@
+-- `rounds_within` ends after as many rounds; a round asks for nothing, as it opens its own cell.
 use borrow.Author.Needs.{needs}
 use Prim.Native.Nat.{_≤_, _-_}
 use Rattle.play.proofs.rounds_within.Statement.{statement}

@@ -1,3 +1,4 @@
+-- `cell_fits`: n from 1 to 9 is `cellFits` as it stands.
 use mathlib.Core.Path.{refl}
 use Rattle.quorum.proofs.cell_fits.Statement.{statement}
 use Rattle.quorum.proofs.cell_fits.Tie as tie

@@ -1,3 +1,4 @@
+-- `everyone_of` is 2^n - 1: 2^n is above 0, so one can be taken off.
 use lib.Pow.{pow-pos}
 use borrow.Author.Needs.{needs}
 use Rattle.quorum.proofs.everyone_of.Statement.{statement}

@@ -1,3 +1,4 @@
+-- `is_below` compares a set with 2^n; a set of 16 bits is below 2^n from n = 16 on.
 use Prim.Native.Nat.{_^_}
 use native.Mathlib.Omega.{arith}
 use lib.Pow.{pow-mono}

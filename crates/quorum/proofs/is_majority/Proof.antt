@@ -1,3 +1,4 @@
+-- `is_majority` compares n / 2 + 1, a sum that does not wrap, with the size of the set.
 use Rattle.quorum.specs.Sets.{isMajority}
 use borrow.Author.Needs.{needs}
 use Rattle.quorum.proofs.is_majority.Statement.{statement}

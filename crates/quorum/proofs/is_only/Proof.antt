@@ -1,3 +1,4 @@
+-- `is_only`: the empty set or the one host's; from 16 on a host has no bit, and 2^host is no set.
 use Prim.Native.Nat.{_^_}
 use native.Mathlib.Omega.{arith}
 use lib.Pow.{pow-mono}

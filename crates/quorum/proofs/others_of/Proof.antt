@@ -1,3 +1,4 @@
+-- `others_of` is everyone's set less one host's: 2^host is below 2^n, so it can be taken off.
 use native.Mathlib.Omega.{arith}
 use lib.Pow.{pow-lt}
 use borrow.Author.Needs.{needs}

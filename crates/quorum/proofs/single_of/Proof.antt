@@ -1,3 +1,4 @@
+-- `single_of`: a one shifted by a host below 16 is 2^host (`shifted`).
 use Rattle.quorum.proofs.Laws.{shifted}
 use borrow.Author.Needs.{needs}
 use Rattle.quorum.proofs.single_of.Statement.{statement}

@@ -1,3 +1,4 @@
+-- `with_host` is the set joined with the set of the one host.
 use borrow.Author.Needs.{needs}
 use Rattle.quorum.proofs.with_host.Statement.{statement}
 use Rattle.quorum.proofs.with_host.Tie as tie

@@ -1,3 +1,4 @@
+-- `accepted_at` drops the accepted lease once its end is at or below the clock.
 use Rattle.rules.specs.Rules.{acceptedAt}
 use borrow.Author.Needs.{needs}
 use Rattle.rules.proofs.accepted_at.Statement.{statement}

@@ -1,3 +1,4 @@
+-- `acts_on`: the set was no majority before the reply, and is one with it.
 use Rattle.rules.specs.Rules.{actsOn}
 use borrow.Author.Needs.{needs}
 use Rattle.rules.proofs.acts_on.Statement.{statement}

@@ -1,3 +1,4 @@
+-- `after_accept`: the proposal becomes the accepted lease, and its ballot the promise.
 use mathlib.Core.Path.{refl}
 use Rattle.rules.specs.Rules.{afterAccept}
 use Rattle.rules.proofs.after_accept.Statement.{statement}

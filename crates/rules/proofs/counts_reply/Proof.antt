@@ -1,3 +1,4 @@
+-- `counts_reply`: a reply counts while its sender is not among those that replied.
 use borrow.Author.Needs.{needs}
 use Rattle.rules.proofs.counts_reply.Statement.{statement}
 use Rattle.rules.proofs.counts_reply.Tie as tie

@@ -1,3 +1,4 @@
+-- `has_ended`: the end of the lease that a reply carries has come; an empty reply has no end.
 use Rattle.rules.specs.Rules.{hasEnded}
 use borrow.Author.Needs.{needs}
 use Rattle.rules.proofs.has_ended.Statement.{statement}

@@ -1,3 +1,4 @@
+-- `higher_of`: of two leases the one of the higher ballot, and what was kept at a tie.
 use Rattle.rules.specs.Rules.{higherOf}
 use borrow.Author.Needs.{needs}
 use Rattle.rules.proofs.higher_of.Statement.{statement}

@@ -1,3 +1,4 @@
+-- `is_fresh`: the clock is above the last ballot's tick, if there was a ballot.
 use Rattle.rules.specs.Rules.{isFresh}
 use borrow.Author.Needs.{needs}
 use Rattle.rules.proofs.is_fresh.Statement.{statement}

@@ -1,3 +1,4 @@
+-- `is_namable`: clock + S, which does not wrap for a clock up to 2^48, is below the keepers' end.
 use native.Mathlib.Omega.{arith}
 use Rattle.message.specs.Message.{lastTick}
 use borrow.Author.Needs.{needs}

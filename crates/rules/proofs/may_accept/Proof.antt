@@ -1,3 +1,4 @@
+-- `may_accept`: the lease has not ended, and its ballot is not below the promise.
 use borrow.Author.Tests.{le-leb, lt-leb}
 use Rattle.rules.specs.Rules.{mayAccept}
 use borrow.Author.Needs.{needs}

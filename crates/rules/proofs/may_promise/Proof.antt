@@ -1,3 +1,4 @@
+-- `may_promise`: the ballot is above the promise, or nothing is promised.
 use Rattle.rules.specs.Rules.{mayPromise}
 use borrow.Author.Needs.{needs}
 use Rattle.rules.proofs.may_promise.Statement.{statement}

@@ -1,3 +1,4 @@
+-- `named_at` drops the named holder once its end is at or below the clock.
 use Rattle.rules.specs.Rules.{namedAt}
 use borrow.Author.Needs.{needs}
 use Rattle.rules.proofs.named_at.Statement.{statement}

@@ -1,3 +1,4 @@
+-- `named_by`: a holder replaces the named one only under a higher ballot.
 use Rattle.rules.specs.Rules.{namedBy}
 use borrow.Author.Needs.{needs}
 use Rattle.rules.proofs.named_by.Statement.{statement}

@@ -1,3 +1,5 @@
+-- `own_end` is tick + duration + S: a tick up to 2^48 and a duration up to 2^31 give a holder's end
+-- within its limit, as `to_keepers` asks.
 use native.Mathlib.Omega.{arith}
 use Rattle.message.specs.Message.{lastTick, lastEnd}
 use borrow.Author.Needs.{needs}

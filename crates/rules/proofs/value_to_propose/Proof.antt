@@ -1,3 +1,5 @@
+-- `value_to_propose` is one's own lease where none is kept, where the kept one has ended, and where
+-- it is one's own and ends no later; else it is the kept one.
 use borrow.Author.Tests.{eq-eqb, le-leb, lt-leb, ne-eqb}
 use Rattle.rules.specs.Rules.{valueToPropose}
 use borrow.Author.Needs.{needs}

@@ -1,3 +1,4 @@
+-- `wait_end` is clock + T + S, and from a clock up to 2^48 neither sum wraps.
 use native.Mathlib.Omega.{arith}
 use mathlib.Core.Path.{refl}
 use Rattle.message.specs.Message.{lastTick}

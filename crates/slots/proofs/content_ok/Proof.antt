@@ -1,3 +1,4 @@
+-- `content_ok`: nothing is refused in the message that a slot holds, if it holds one.
 use Rattle.slots.specs.Slots.{contentOk}
 use borrow.Author.Needs.{needs}
 use Rattle.slots.proofs.content_ok.Statement.{statement}

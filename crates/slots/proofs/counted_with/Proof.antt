@@ -1,3 +1,4 @@
+-- `counted_with` is one more where the slot is empty, and there is room for one more.
 use borrow.Author.Needs.{needs}
 use native.Mathlib.Numerals.{add-one}
 use Rattle.slots.specs.Parts.{countedWith}

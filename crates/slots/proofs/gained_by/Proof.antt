@@ -1,3 +1,4 @@
+-- `gained_by`: one empty slot is gained where a slot that held a message is freed, else none.
 use borrow.Author.Needs.{needs}
 use Rattle.slots.specs.Parts.{gainedBy}
 use Rattle.slots.proofs.gained_by.Statement.{statement}

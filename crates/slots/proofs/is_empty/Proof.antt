@@ -1,3 +1,4 @@
+-- `is_empty` tells an empty slot from one that holds a message.
 use Rattle.slots.specs.Slots.{isEmpty}
 use borrow.Author.Needs.{needs}
 use Rattle.slots.proofs.is_empty.Statement.{statement}

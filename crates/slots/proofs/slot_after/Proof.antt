@@ -1,3 +1,4 @@
+-- `slot_after`: the empty slot where the event frees it, and else the slot as it was.
 use Rattle.slots.specs.Parts.{slotAfter}
 use Rattle.slots.proofs.slot_after.Statement.{statement}
 use Rattle.slots.proofs.slot_after.Tie as tie

@@ -1,3 +1,5 @@
+-- `slots_ok`: every slot is within its limits. At slot i the answer for all is the answer for those
+-- from i on (`Walked`), and the first slot that fails ends the walk.
 use borrow.Author.Needs.{needs}
 use Prim.Native.Nat.{_-_}
 use mathlib.Core.Path.{sym}

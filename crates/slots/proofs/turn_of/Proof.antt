@@ -1,3 +1,4 @@
+-- `turn_of`: no receiver, then a taken slot is passed over; else the slot gets the host's message.
 use borrow.Author.Needs.{needs}
 use mathlib.Core.Bool.{true, false}
 use mathlib.Core.Path.{_≡_, sym, _∙_}

@@ -1,3 +1,4 @@
+-- `accepted_ok`: nothing accepted, or a lease whose ballot, owner and end are within limits.
 use Rattle.state.specs.StateLimits.{acceptedOk}
 use borrow.Author.Needs.{needs}
 use Rattle.state.proofs.accepted_ok.Statement.{statement}

@@ -1,3 +1,4 @@
+-- `asking_ok`: ballot (the host's own), duration, who replied and the kept lease are within limits.
 use Rattle.base.specs.Lists.{allOf}
 use Rattle.state.specs.StateLimits.{askingOk}
 use borrow.Author.Needs.{needs}

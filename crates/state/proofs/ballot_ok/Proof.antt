@@ -1,3 +1,4 @@
+-- `ballot_ok`: a tick up to 2^48 and a host below n.
 use mathlib.Core.Path.{refl}
 use Rattle.base.specs.Lists.{allOf}
 use Rattle.message.specs.Message.{lastTick}

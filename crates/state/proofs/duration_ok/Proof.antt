@@ -1,3 +1,4 @@
+-- `duration_ok`: duration + S, a sum that does not wrap in 64 bits, is at most T.
 use mathlib.Core.Path.{refl}
 use Rattle.state.specs.StateLimits.{durationOk}
 use borrow.Author.Needs.{needs}

@@ -1,3 +1,4 @@
+-- `is_blank_state`: none of the five parts of a state is kept.
 use borrow.Author.Needs.{needs}
 use Rattle.base.specs.Lists.{allOf}
 use Rattle.state.specs.Blank.{isBlankState}

@@ -1,3 +1,4 @@
+-- `last_ok`: no ballot yet, or one whose tick is at most 2^48.
 use Rattle.message.specs.Message.{lastTick}
 use Rattle.state.specs.StateLimits.{lastOk}
 use borrow.Author.Needs.{needs}

@@ -1,3 +1,4 @@
+-- `lease_ok`: a ballot within its limits, an owner below n, an end up to 2^48 + 2^31.
 use Rattle.base.specs.Lists.{allOf}
 use Rattle.message.specs.Message.{lastEnd}
 use Rattle.state.specs.StateLimits.{leaseOk}

@@ -1,3 +1,4 @@
+-- `named_ok`: nobody named, or a holder whose ballot, owner and end are within limits.
 use Rattle.state.specs.StateLimits.{namedOk}
 use borrow.Author.Needs.{needs}
 use Rattle.state.proofs.named_ok.Statement.{statement}

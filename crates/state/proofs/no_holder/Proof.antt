@@ -1,3 +1,4 @@
+-- `no_holder` is true where nobody is named.
 use borrow.Author.Needs.{needs}
 use Rattle.state.specs.Blank.{noHolder}
 use Rattle.state.proofs.no_holder.Statement.{statement}

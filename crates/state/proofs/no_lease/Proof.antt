@@ -1,3 +1,4 @@
+-- `no_lease` is true where no lease is accepted.
 use borrow.Author.Needs.{needs}
 use Rattle.state.specs.Blank.{noLease}
 use Rattle.state.proofs.no_lease.Statement.{statement}

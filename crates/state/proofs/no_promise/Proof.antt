@@ -1,3 +1,4 @@
+-- `no_promise` is true where no ballot is promised.
 use borrow.Author.Needs.{needs}
 use Rattle.state.specs.Blank.{noPromise}
 use Rattle.state.proofs.no_promise.Statement.{statement}

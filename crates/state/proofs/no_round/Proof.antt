@@ -1,3 +1,4 @@
+-- `no_round` is true of an idle host, and false of one that asks and of one that proposes.
 use borrow.Author.Needs.{needs}
 use Rattle.state.specs.Blank.{noRound}
 use Rattle.state.proofs.no_round.Statement.{statement}

@@ -1,3 +1,4 @@
+-- `no_tick` is true of a host that has not yet had a ballot.
 use borrow.Author.Needs.{needs}
 use Rattle.state.specs.Blank.{noTick}
 use Rattle.state.proofs.no_tick.Statement.{statement}

@@ -1,3 +1,4 @@
+-- `promised_ok`: nothing promised, or a ballot within its limits.
 use Rattle.state.specs.StateLimits.{promisedOk}
 use borrow.Author.Needs.{needs}
 use Rattle.state.proofs.promised_ok.Statement.{statement}

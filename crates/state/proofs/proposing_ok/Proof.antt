@@ -1,3 +1,4 @@
+-- `proposing_ok`: a lease under the host's own ballot, within limits, and voters below n.
 use Rattle.base.specs.Lists.{allOf}
 use Rattle.state.specs.StateLimits.{proposingOk}
 use borrow.Author.Needs.{needs}

@@ -1,3 +1,4 @@
+-- `round_ok`: an idle host passes, and each of the two rounds by its own test.
 use Rattle.state.specs.StateLimits.{roundOk}
 use borrow.Author.Needs.{needs}
 use Rattle.state.proofs.round_ok.Statement.{statement}

@@ -1,3 +1,4 @@
+-- `settings_ok`: n from 1 to 9, T from 1 to 2^31, and S below T.
 use Rattle.base.specs.Lists.{allOf}
 use Rattle.state.specs.StateLimits.{settingsOk, lastLongest}
 use borrow.Author.Needs.{needs}

@@ -1,3 +1,4 @@
+-- `state_ok`: each of the five parts of a state is within its limits.
 use Rattle.base.specs.Lists.{allOf}
 use Rattle.state.specs.StateLimits.{stateOk}
 use borrow.Author.Needs.{needs}

@@ -1,3 +1,4 @@
+-- `byte` is the number of width 1 at its offset: one byte is its own number (`number-one`).
 use mathlib.Core.Path.{sym}
 use borrow.Author.Needs.{needs}
 use Rattle.wire.proofs.Laws.{number-one}

@@ -1,3 +1,5 @@
+-- `get` gives the number in w bytes, read from the last byte to the first: v is the number in the
+-- bytes from i on, so it fits into as many bytes and a turn does not wrap.
 use mathlib.Core.Path.{_≡_}
 use Prim.Native.Nat.{ℕ, _+_, _-_, _*_, _^_, _≤_, _<_}
 use native.Mathlib.Omega.{arith}

@@ -1,3 +1,4 @@
+-- `put` stores the w lowest bytes of a number, each turn the lowest of what is left.
 use mathlib.Core.Path.{_≡_, refl, sym, _∙_}
 use Prim.Native.Nat.{ℕ, suc, _+_, _-_, _/_, _%_, _≤_, _<_}
 use native.Mathlib.Omega.{arith}

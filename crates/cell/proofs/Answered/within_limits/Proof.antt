@@ -1,3 +1,5 @@
+-- `Answered::within_limits` is `cellOk`: settings, places, states, clocks and slots, in that order.
+-- Settings that fit give `clocks_ok` the n from 1 to 9 that it asks for.
 use borrow.Author.Needs.{needs}
 use borrow.Author.Tests.{not-true, not-false}
 use mathlib.Core.Bool.{true}

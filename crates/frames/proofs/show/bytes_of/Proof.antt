@@ -1,3 +1,4 @@
+-- `show::bytes_of` ends at len, and its index does not wrap.
 use Prim.Native.Nat.{_-_, _≤_}
 use borrow.Author.Needs.{needs}
 use Rattle.frames.proofs.show.bytes_of.Statement.{statement}

@@ -1,3 +1,5 @@
+-- `Host::advance` is `advanceOf`: 1, then 15. The limits keep the clock at or below 2^48, so that
+-- testing d against what is left up to there is the definition's test of the sum.
 use mathlib.Core.Path.{_≡_}
 use mathlib.Core.Bool.{true}
 use Prim.Native.Nat.{_+_}

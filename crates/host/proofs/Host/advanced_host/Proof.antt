@@ -1,3 +1,4 @@
+-- `Host::advanced_host`: the clock goes up by d without wrapping, and the state ages with it.
 use native.Mathlib.Omega.{arith}
 use Rattle.message.specs.Message.{lastTick}
 use Rattle.host.specs.Steps.{advancedHost}

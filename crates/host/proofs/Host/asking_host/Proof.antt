@@ -1,3 +1,4 @@
+-- `Host::asking_host`: a round under the ballot of this clock and number, with no reply yet.
 use borrow.Author.Needs.{needs}
 use Rattle.host.proofs.Host.asking_host.Statement.{statement}
 use Rattle.host.proofs.Host.asking_host.Tie as tie

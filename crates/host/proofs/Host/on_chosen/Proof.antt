@@ -1,3 +1,5 @@
+-- `Host::on_chosen`: a lease that can be named has an end above S, as `to_holders` asks, and its
+-- owner is named; any other leaves the host idle.
 use Prim.Native.Nat.{_+_}
 use native.Mathlib.Omega.{arith}
 use borrow.Author.Tests.{ltb-true}

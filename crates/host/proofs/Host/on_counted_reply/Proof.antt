@@ -1,3 +1,4 @@
+-- `Host::on_counted_reply`: only the reply that makes a majority goes on to `on_majority`.
 use borrow.Author.Tests.{not-false, not-true}
 use Rattle.host.specs.Steps.{onCountedReply}
 use borrow.Author.Needs.{needs}

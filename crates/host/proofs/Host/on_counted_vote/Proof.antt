@@ -1,3 +1,4 @@
+-- `Host::on_counted_vote`: only the vote that makes a majority has the lease chosen.
 use borrow.Author.Tests.{not-false, not-true}
 use Rattle.host.specs.Steps.{onCountedVote}
 use borrow.Author.Needs.{needs}

@@ -1,3 +1,4 @@
+-- `Host::on_delivery`: a waiting host does nothing, any other acts on the message.
 use mathlib.Core.Path.{_≡_, sym, _∙_}
 use mathlib.Core.Bool.{true, false}
 use Rattle.rules.specs.Rules.{isWaiting}

@@ -1,3 +1,4 @@
+-- `Host::on_learn`: a holder whose end has come is not named, any other by `named_by`.
 use borrow.Author.Tests.{le-leb, lt-leb}
 use Rattle.host.specs.Steps.{onLearn}
 use borrow.Author.Needs.{needs}

@@ -1,3 +1,4 @@
+-- `Host::on_majority`: a value whose end has come leaves the host idle, any other goes to all n.
 use borrow.Author.Tests.{le-leb, lt-leb}
 use Rattle.host.specs.Steps.{onMajority}
 use borrow.Author.Needs.{needs}

@@ -1,3 +1,5 @@
+-- `Host::on_message` is `onMessage`, kind by kind: a host within limits and a message that is not
+-- refused give each step what it asks for, such as a sender below 16 (`small`).
 use native.Mathlib.Omega.{arith}
 use Rattle.message.specs.Message.{numbersOf}
 use Rattle.host.specs.Steps.{onMessage}

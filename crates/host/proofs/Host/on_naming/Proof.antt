@@ -1,3 +1,4 @@
+-- `Host::on_naming`: learn goes to the n - 1 others, and a host alone sends nothing.
 use borrow.Author.Tests.{eq-eqb, ne-eqb}
 use Rattle.host.specs.Steps.{onNaming}
 use borrow.Author.Needs.{needs}

@@ -1,3 +1,5 @@
+-- `Host::on_prepare_request`: a ballot that may be promised is, and answered to its host with what
+-- was accepted; any other does nothing.
 use borrow.Author.Tests.{not-false, not-true}
 use Rattle.host.specs.Steps.{onPrepareRequest}
 use borrow.Author.Needs.{needs}

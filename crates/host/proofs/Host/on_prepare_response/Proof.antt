@@ -1,3 +1,5 @@
+-- `Host::on_prepare_response`: only a round that asks takes a reply; the host's limits keep its
+-- tick and its duration small enough for `on_reply`.
 use mathlib.Core.Path.{sym, ap, _∙_}
 use native.Mathlib.Omega.{arith}
 use Rattle.state.specs.declared.Round.{Round}

@@ -1,3 +1,4 @@
+-- `Host::on_propose_response`: only a round that proposes takes a vote.
 use Rattle.host.specs.Steps.{onProposeResponse}
 use borrow.Author.Needs.{needs}
 use Rattle.host.proofs.Host.on_propose_response.Statement.{statement}

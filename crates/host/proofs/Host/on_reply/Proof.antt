@@ -1,3 +1,5 @@
+-- `Host::on_reply`: a reply to another ballot, a second one of its sender and one whose lease has
+-- ended do nothing; any other is counted.
 use mathlib.Core.Path.{_≡_}
 use mathlib.Core.Bool.{true, false}
 use borrow.Author.Tests.{not-false, not-true}

@@ -1,3 +1,4 @@
+-- `Host::on_start`: the host asks under its new ballot, and the prepare request goes to all n.
 use Rattle.host.specs.Steps.{onStart}
 use borrow.Author.Needs.{needs}
 use Rattle.host.proofs.Host.on_start.Statement.{statement}

@@ -1,3 +1,4 @@
+-- `Host::on_vote`: a vote for another ballot or a second one of its sender is not counted.
 use mathlib.Core.Path.{_≡_}
 use mathlib.Core.Bool.{true}
 use borrow.Author.Tests.{not-false, not-true}

@@ -1,3 +1,4 @@
+-- `Host::proposed_value`: the rule's value, given the end of a lease of one's own.
 use borrow.Author.Needs.{needs}
 use Rattle.host.proofs.Host.proposed_value.Statement.{statement}
 use Rattle.host.proofs.Host.proposed_value.Tie as tie

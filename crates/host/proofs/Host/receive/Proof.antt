@@ -1,3 +1,5 @@
+-- `Host::receive` is `receiveOf`: 1, then what is refused in the message, then 7 where it is for
+-- another host. Past these, host and message are as `on_delivery` asks.
 use mathlib.Core.Path.{_≡_, _∙_}
 use mathlib.Core.Bool.{true}
 use borrow.Author.Tests.{eq-eqb, ne-eqb, not-true, not-false}

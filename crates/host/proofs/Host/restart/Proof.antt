@@ -1,3 +1,4 @@
+-- `Host::restart` is `restartOf`: 1, or the restarted host, whose clock is within its limit.
 use Rattle.base.proofs.Tests.{told}
 use Rattle.host.proofs.HostLimits.{host-in}
 use borrow.Author.Tests.{not-false, not-true}

@@ -1,3 +1,4 @@
+-- `Host::restarted_host`: number and clock stay, the wait begins anew, the state is blank.
 use Rattle.host.specs.Steps.{restartedHost}
 use borrow.Author.Needs.{needs}
 use Rattle.host.proofs.Host.restarted_host.Statement.{statement}

@@ -1,3 +1,4 @@
+-- `response_with`: an empty response where nothing is accepted, else one with the lease.
 use Rattle.host.specs.Steps.{responseWith}
 use borrow.Author.Needs.{needs}
 use Rattle.host.proofs.acceptor.response_with.Statement.{statement}

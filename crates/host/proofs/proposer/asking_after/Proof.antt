@@ -1,3 +1,4 @@
+-- `asking_after`: the sender joins those that replied, and the higher of two leases is kept.
 use Rattle.host.specs.Steps.{askingAfter}
 use borrow.Author.Needs.{needs}
 use Rattle.host.proofs.proposer.asking_after.Statement.{statement}

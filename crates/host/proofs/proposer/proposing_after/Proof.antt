@@ -1,3 +1,4 @@
+-- `proposing_after`: the sender joins those that voted, and the proposal stays.
 use Rattle.host.specs.Steps.{proposingAfter}
 use borrow.Author.Needs.{needs}
 use Rattle.host.proofs.proposer.proposing_after.Statement.{statement}

@@ -1,3 +1,4 @@
+-- `Ballot::is_above` is decided by the ticks, and where they are the same by the hosts.
 use borrow.Author.Tests.{eq-eqb, ne-eqb}
 use Rattle.message.specs.Message.{isAbove}
 use Rattle.message.proofs.Ballot.is_above.Statement.{statement}

@@ -1,3 +1,4 @@
+-- `HoldersEnd::to_keepers` is S later: an end up to 2^48 + 2^31 leaves room for the sum.
 use native.Mathlib.Omega.{arith}
 use Rattle.message.specs.Message.{lastEnd}
 use borrow.Author.Needs.{needs}

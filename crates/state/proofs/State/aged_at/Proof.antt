@@ -1,3 +1,4 @@
+-- `State::aged_at` ages what is accepted and who is named, and leaves the rest.
 use Rattle.state.specs.Ageing.{agedAt}
 use borrow.Author.Needs.{needs}
 use Rattle.state.proofs.State.aged_at.Statement.{statement}
