@@ -1,4 +1,5 @@
--- The answer of an event is 0 or a number of its own order, and never 1 where the cell is within its limits. Assumes nothing.
+-- The answer of an event is 0 or a number of its own order, and never 1 where the cell is within
+-- its limits. Assumes nothing.
 use mathlib.Core.Path.{_≡_, refl}
 use mathlib.Core.Bool.{true, false, not, _&&_}
 use mathlib.Core.List.{List, [], _∷_, List·Memᴰ, List·Memᴰ·head, List·Memᴰ·tail}

@@ -188,7 +188,8 @@ module _ (s : Settings) (h : Host) {w : World (setup s)} (e : Stands s w (h .num
           ≡ N.tick (code (a .ballot)) + a .duration + s .spread
       own = omega (arith, low)
 
--- a majority has voted for the proposal of h: it tells the others, names the owner, and ends its round
+-- a majority has voted for the proposal of h: it tells the others, names the owner, and ends its
+-- round
 module _ (s : Settings) (h : Host) {w : World (setup s)} (e : Stands s w (h .number) h)
     (p : Proposing) (z : h .state .round ≡ Round.Proposing p) (j : Majority (s .n) (p .replied))
     (t : isNamable (h .clock) (s .spread) (p .end) ≡ true) where

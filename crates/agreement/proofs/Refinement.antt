@@ -1,4 +1,5 @@
--- The cell as a world of the theory: what opening hands back is one, and every event is some of its steps. Assumes nothing.
+-- The cell as a world of the theory: what opening hands back is one, and every event is some of its
+-- steps. Assumes nothing.
 use Prim.Native.Nat.{ℕ, _+_, _≤_, _<_}
 use native.Mathlib.Omega.{arith}
 use native.Mathlib.Nat.{le-refl}
@@ -62,8 +63,8 @@ use Rattle.cell.proofs.StaysWithin.{host-passed, by-opening, opened-at, kept-ev
 abbrev pub SentIn : {s : Settings} → World (setup s) → Message → Type 0
 SentIn w m = M.Sent w (asMessage m)
 
--- The cell c of these settings is the world w: each of its hosts is w's host of that number, the clocks of other numbers follow host 0's,
--- and each message under way was sent.
+-- The cell c of these settings is the world w: each of its hosts is w's host of that number, the
+-- clocks of other numbers follow host 0's, and each message under way was sent.
 pub record Explained (s : Settings) (c : Cell) (w : World (setup s)) : Type 0 where
   pub settings : c .settings ≡ s
   pub host : (h : ℕ) → h < s .n → Stands s w h (hostAt c h)
@@ -167,7 +168,8 @@ module _ {s : Settings} {c : Cell} {w : World (setup s)} (x : Explained s c w) w
         named = none;
       }
 
-  -- the cell's hosts are older: so is the world. What other numbers name is dropped, and their clocks follow host 0's.
+  -- the cell's hosts are older: so is the world. What other numbers name is dropped, and their
+  -- clocks follow host 0's.
   pub explained-age : 1 ≤ s .n → (d : Cell) → d .settings ≡ c .settings → d .slots ≡ c .slots
       → ((h : ℕ) → h < s .n → Older s (hostAt c h) (hostAt d h))
       → ((h k : ℕ) → h < s .n → k < s .n → hostAt d h .clock ≤ hostAt d k .clock + s .spread)

@@ -1,5 +1,5 @@
--- No round of a run holds a majority of replies: a round begins with none, and acts on the reply that makes
--- them one. Assumes nothing.
+-- No round of a run holds a majority of replies: a round begins with none, and acts on the reply
+-- that makes them one. Assumes nothing.
 use mathlib.Core.Path.{_≡_, sym, ap, _∙_}
 use mathlib.Core.Bool.{false}
 use mathlib.Core.List.{List, [], _∷_}

@@ -1,5 +1,5 @@
--- What stands for what: settings, hosts and messages in the theory's words, and what a host's step has to give for the theory to take it
--- for its own. Assumes nothing.
+-- What stands for what: settings, hosts and messages in the theory's words, and what a host's step
+-- has to give for the theory to take it for its own. Assumes nothing.
 use Prim.Native.Nat.{ℕ, _+_, _*_, _^_, _<_, _≤_}
 use native.Mathlib.Omega.{arith}
 use mathlib.Core.Path.{_≡_, refl, sym, subst₂, _∙_}
@@ -154,8 +154,9 @@ module _ (s : Settings) where
   Sends w Sent.Nothing = Unit {0}
   Sends w (Sent.One m) = M.Sent w (asMessage m)
 
-  -- x in w has taken the step t: the theory goes from w to a world in which x is what t leaves, every clock and every other host are as
-  -- before, what was sent still is, and what t sends is sent
+  -- x in w has taken the step t: the theory goes from w to a world in which x is what t leaves,
+  -- every clock and every other host are as before, what was sent still is, and what t sends is
+  -- sent
   pub record Acted (w : World (setup s)) (x : ℕ) (t : Stepped) : Type 0 where
     pub now : World (setup s)
     pub reach : Reach w now

@@ -1,7 +1,9 @@
--- The code and demand 3. `Played` is what the code has after opening and after each event: every step of it is a contract that is proved
--- of a function, `r ≡ openingOf s clock` of `cell::open`, and `r ≡ eventOf c e`, of the cell c that it is handed, of `event::apply` and
--- of `event::apply_within`. `CodeAgrees` says that the cell is then `run (opening ..)` of the events, so that for every host it has
--- exactly the named holder that the rules give, or none, and that agreement holds of it. Assumes nothing.
+-- The code and demand 3. `Played` is what the code has after opening and after each event: every
+-- step of it is a contract that is proved of a function, `r ≡ openingOf s clock` of `cell::open`,
+-- and `r ≡ eventOf c e`, of the cell c that it is handed, of `event::apply` and of
+-- `event::apply_within`. `CodeAgrees` says that the cell is then `run (opening ..)` of the events,
+-- so that for every host it has exactly the named holder that the rules give, or none, and that
+-- agreement holds of it. Assumes nothing.
 use Prim.Native.Nat.{ℕ}
 use mathlib.Core.Path.{_≡_}
 use mathlib.Core.List.{List, [], _∷_, _++_}

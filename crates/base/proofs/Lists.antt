@@ -1,5 +1,5 @@
--- Laws of lists: what holds of each element, one element replaced, a list from a place on, and a walk that tests each element.
--- Assumes nothing.
+-- Laws of lists: what holds of each element, one element replaced, a list from a place on, and a
+-- walk that tests each element. Assumes nothing.
 use mathlib.Core.Path.{_≡_, refl, sym, ap, _∙_}
 use mathlib.Core.Bool.{Bool, true, false}
 use mathlib.Core.List.{List, [], _∷_, map}
@@ -70,7 +70,8 @@ pub length-mapped : {A B : Type 0} (f : A → B) (l : List A) (n : ℕ) → leng
     → length l ≡ n
 length-mapped f l n e = sym (length-map l f) ∙ e
 
--- ---- a walk that tests each element: where it stands before place i, its next turn, a turn that fails, and its end
+-- ---- a walk that tests each element: where it stands before place i, its next turn, a turn that
+-- fails, and its end
 
 pub record Walked {A : Type 0} (f : ℕ → A → Bool) (n : ℕ) (xs : List A) (i : ℕ) : Type 0 where
   pub long : length xs ≡ n

@@ -1,2 +1,3 @@
+-- Refusals by number, and lists of tests. A reader of any other definition needs these first.
 pub mod Refusals
 pub mod Lists

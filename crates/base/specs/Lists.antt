@@ -1,4 +1,5 @@
--- What holds of each element of a list, as a claim and as a test, and a list of tests that all have to hold. Assumes nothing.
+-- What holds of each element of a list, as a claim and as a test, and a list of tests that all have
+-- to hold. Assumes nothing.
 use Prim.Native.Nat.{ℕ, suc}
 use mathlib.Core.Bool.{Bool, true, _&&_}
 use mathlib.Core.List.{List, [], _∷_}

@@ -1,4 +1,5 @@
--- The refusals of document 01 by number, and how an ordered list of them gives an answer. Assumes nothing.
+-- The refusals of document 01 by number, and how an ordered list of them gives an answer. Assumes
+-- nothing.
 use Prim.Native.Nat.{ℕ}
 use mathlib.Core.Bool.{Bool, cond}
 use mathlib.Core.List.{List, [], _∷_, map}

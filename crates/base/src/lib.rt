@@ -1,4 +1,5 @@
-// The refusals of document 01 by number. There are no functions here: specs/ and proofs/ hold what every crate cites.
+// The refusals of document 01 by number. There are no functions here: specs/ and proofs/ hold what
+// every crate cites.
 pub const DONE: u8 = 0;
 
 pub const REFUSED_CELL: u8 = 1;

@@ -1,4 +1,5 @@
--- What the limits of a cell tell of each host by its number and of each message under way, and the limits from that. Assumes nothing.
+-- What the limits of a cell tell of each host by its number and of each message under way, and the
+-- limits from that. Assumes nothing.
 use mathlib.Core.Path.{_≡_, refl}
 use mathlib.Core.Bool.{true}
 use mathlib.Core.List.{[]}

@@ -1,5 +1,5 @@
--- What holds of both outcomes of an event holds of it; that the settings stay; what a step sends; and that a delivery counts its own
--- slot as empty. Assumes nothing.
+-- What holds of both outcomes of an event holds of it; that the settings stay; what a step sends;
+-- and that a delivery counts its own slot as empty. Assumes nothing.
 use mathlib.Core.Path.{_≡_, refl, sym}
 use mathlib.Core.List.{List}
 use Prim.Native.Nat.{ℕ, _≤_, _<_}
@@ -96,7 +96,8 @@ holds-sent P n ss (Sent.One m) receivers p f =
     holds-placed-each P ss m (members n receivers) p
     (all-map (members n receivers) (λ h i. f m h refl i) (members-all n receivers))
 
--- ---- a delivery counts the slot that it frees as empty, so that what it sends to one host always fits
+-- ---- a delivery counts the slot that it frees as empty, so that what it sends to one host always
+-- fits
 
 freed-counted : (c : Cell) (i : ℕ) → i < length (c .slots) → 1 ≤ empties (countedFor c i)
 freed-counted c i b = freed-counts (c .slots) i b

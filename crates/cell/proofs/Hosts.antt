@@ -1,5 +1,6 @@
--- The hosts of a cell by their number: one of them replaced, all of them advanced, and their clocks. But for the limits and the proof of
--- `apply_within`, which walk them, proofs above this file speak of hosts by `hostAt` and `withHost` alone. Assumes nothing.
+-- The hosts of a cell by their number: one of them replaced, all of them advanced, and their
+-- clocks. But for the limits and the proof of `apply_within`, which walk them, proofs above this
+-- file speak of hosts by `hostAt` and `withHost` alone. Assumes nothing.
 use mathlib.Core.Path.{_≡_, refl, _∙_}
 use mathlib.Core.Bool.{true}
 use Prim.Native.Nat.{ℕ, _+_, _≤_, _<_}
@@ -29,7 +30,8 @@ module _ (c : Cell) (h : ℕ) (x : Host) where
   pub host-same : Sized c → h < 9 → hostAt (withHost c h x) h ≡ x
   host-same z b = getD-set-same (c .hosts) h x blankHost (omega (arith, z .hosts))
 
-  -- what holds of the new host under its number, and of the old host of a number, holds of the host of that number now
+  -- what holds of the new host under its number, and of the old host of a number, holds of the host
+  -- of that number now
   pub by-host : (P : Host → Type 0) (k : ℕ) → (k ≡ h → P x) → P (hostAt c k)
       → P (hostAt (withHost c h x) k)
   by-host P k p q = by-place P (c .hosts) h x k blankHost p q

@@ -1,5 +1,5 @@
--- A cell within its limits stays within them, whatever the events: opening, each event, and any run. A loop over events may carry
--- `Sound` and test nothing again. Assumes nothing.
+-- A cell within its limits stays within them, whatever the events: opening, each event, and any
+-- run. A loop over events may carry `Sound` and test nothing again. Assumes nothing.
 use mathlib.Core.Path.{_≡_, refl, sym, _∙_}
 use mathlib.Core.Bool.{true}
 use mathlib.Core.List.{List, [], _∷_}
@@ -83,8 +83,8 @@ opened-in s clock o = (
     clock-at : (k : ℕ) → k < s .n → hostAt (openedWith s clock) k .clock ≡ clock
     clock-at k b = rw (at k) (new-fits s clock k o b .1)
 
--- what holds of every cell opened within the limits holds of what opening hands back, whatever the numbers: a refused opening's cell is
--- opened with the least settings
+-- what holds of every cell opened within the limits holds of what opening hands back, whatever the
+-- numbers: a refused opening's cell is opened with the least settings
 pub by-opening : (P : Cell → Type 0)
     → ((s : Settings) (clock : ℕ) → Opens s clock → P (openedWith s clock))
     → (s : Settings) (clock : ℕ) → P (opening s clock)

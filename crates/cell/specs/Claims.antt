@@ -1,5 +1,5 @@
--- What is claimed of opening and of one event, for every cell, in one place; proofs/Claims.antt proves it.
--- What holds of whole runs is claimed in the crate `agreement`. Assumes nothing.
+-- What is claimed of opening and of one event, for every cell, in one place; proofs/Claims.antt
+-- proves it. What holds of whole runs is claimed in the crate `agreement`. Assumes nothing.
 use Prim.Native.Nat.{ℕ}
 use mathlib.Core.Path.{_≡_}
 use mathlib.Core.Bool.{true}

@@ -1,5 +1,5 @@
--- Opening and the seven events, in document 01's order: what is refused and what is done, apart. The host's part of each is the rule
--- book's. Assumes nothing.
+-- Opening and the seven events, in document 01's order: what is refused and what is done, apart.
+-- The host's part of each is the rule book's. Assumes nothing.
 use Prim.Native.Nat.{ℕ}
 use mathlib.Core.Bool.{cond}
 use mathlib.Core.List.{List, [], _∷_}
@@ -150,9 +150,12 @@ deliverFull c i (Content.One m) = stepFull (countedFor c i) (deliverStep c m)
 
 unfoldable pub deliverRefusal : Cell → ℕ → ℕ
 deliverRefusal c i =
-    firstOf
-    (unless (cellOk c) refusedCell ∷ slotRefusal i (contentAt c i) ∷ deliverFull c i (contentAt c i)
-    ∷ [])
+    firstOf (
+    unless (cellOk c) refusedCell
+    ∷ slotRefusal i (contentAt c i)
+    ∷ deliverFull c i (contentAt c i)
+    ∷ []
+    )
 
 -- 'empties the slot, then the receiver acts'
 unfoldable pub delivered : Cell → ℕ → Content → Cell
@@ -168,8 +171,12 @@ loseRefusal c i = firstOf (unless (cellOk c) refusedCell ∷ slotRefusal i (cont
 
 unfoldable pub repeatRefusal : Cell → ℕ → ℕ
 repeatRefusal c i =
-    firstOf
-    (unless (cellOk c) refusedCell ∷ slotRefusal i (contentAt c i) ∷ fullRefusal 1 (c .slots) ∷ [])
+    firstOf (
+    unless (cellOk c) refusedCell
+    ∷ slotRefusal i (contentAt c i)
+    ∷ fullRefusal 1 (c .slots)
+    ∷ []
+    )
 
 -- 'copies a slot's message into the lowest empty slot'
 unfoldable pub repeated : Cell → Content → Cell
@@ -180,9 +187,12 @@ repeated c (Content.One m) = withSlots c (placed (c .slots) m)
 
 unfoldable pub restartAtRefusal : Cell → ℕ → ℕ
 restartAtRefusal c h =
-    firstOf
-    (unless (cellOk c) refusedCell ∷ hostRefusal c h ∷ restartRefusal (c .settings) (hostAt c h)
-    ∷ [])
+    firstOf (
+    unless (cellOk c) refusedCell
+    ∷ hostRefusal c h
+    ∷ restartRefusal (c .settings) (hostAt c h)
+    ∷ []
+    )
 
 -- ---- any event: the number that it is refused by, and the cell where nothing is refused
 

@@ -1,9 +1,11 @@
-// The cell as a value: nine places for hosts, and the messages under way in 96 slots. Its limits, and opening; what each event does to
-// it is defined here (specs/Events.antt), and carried out by the crate `event`.
+// The cell as a value: nine places for hosts, and the messages under way in 96 slots. Its limits,
+// and opening; what each event does to it is defined here (specs/Events.antt), and carried out by
+// the crate `event`.
 ghost use mathlib.Core.Path.{_≡_};
 ghost use Rattle.places.specs.Parts.{Opens};
 ghost use Rattle.cell.specs.CellLimits.{cellOk};
-ghost use Rattle.cell.specs.Events.{answeredWith, cellOf, leastSettings, openedWith, openingOf};
+ghost use Rattle.cell.specs.Events.{answeredWith, cellOf, leastSettings, openedWith};
+ghost use Rattle.cell.specs.Events.{openingOf};
 use base::DONE;
 use base::REFUSED_CELL;
 use base::REFUSED_TICK;
@@ -30,8 +32,8 @@ pub enum Event {
     Restart(u8),
 }
 
-// What opening or an event gives, and the next event is handed: the answer's number and the cell, side by side, so that the cell can be
-// changed in place.
+// What opening or an event gives, and the next event is handed: the answer's number and the cell,
+// side by side, so that the cell can be changed in place.
 pub struct Answered {
     pub answer: u8,
     pub settings: Settings,

@@ -1,5 +1,6 @@
--- An event is the change that is found from the one host and the one slot that it is about: each row of the tables of the events in the
--- form of its change, and from that what `apply_within` gives at each of its returns. Assumes nothing.
+-- An event is the change that is found from the one host and the one slot that it is about: each
+-- row of the tables of the events in the form of its change, and from that what `apply_within`
+-- gives at each of its returns. Assumes nothing.
 use mathlib.Core.Path.{_≡_, refl, sym, ap, _∙_}
 use mathlib.Core.Bool.{Bool, true, false, _&&_, not}
 use mathlib.Core.List.{List, [], _∷_}

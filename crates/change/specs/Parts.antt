@@ -1,5 +1,6 @@
--- What an event is about, the change that it makes, found from the one host and the one slot that it is about, and that change committed
--- to a cell, all in the shape of the code. No claim rests on it: proofs/Tables ties it to the tables of cell/specs/Events. Assumes nothing.
+-- What an event is about, the change that it makes, found from the one host and the one slot that
+-- it is about, and that change committed to a cell, all in the shape of the code. No claim rests on
+-- it: proofs/Tables ties it to the tables of cell/specs/Events. Assumes nothing.
 use Prim.Native.Nat.{ℕ}
 use mathlib.Core.Bool.{Bool, true, false}
 use mathlib.Core.List.{List, [], _∷_}

@@ -1,9 +1,11 @@
-// What an event does, found from small values: settings, the event, one host and what one slot holds. It is handed no cell: which
-// host and which slot they are, and whether there is room for what is sent, is for the crate `event`.
+// What an event does, found from small values: settings, the event, one host and what one slot
+// holds. It is handed no cell: which host and which slot they are, and whether there is room for
+// what is sent, is for the crate `event`.
 ghost use mathlib.Core.Path.{_≡_};
 ghost use Prim.Native.Nat.{_<_};
 ghost use Rattle.cell.specs.Events.{messagesIn};
-ghost use Rattle.change.specs.Parts.{change, isAll, ticksOf, slotOf, targetIn, hostOf, deliverChange, loseChange, repeatChange, changeOf};
+ghost use Rattle.change.specs.Parts.{change, isAll, ticksOf, slotOf, targetIn, hostOf};
+ghost use Rattle.change.specs.Parts.{deliverChange, loseChange, repeatChange, changeOf};
 use base::REFUSED_SLOT;
 use cell::Event;
 use host::Host;
@@ -12,7 +14,8 @@ use host::Stepped;
 use slots::Content;
 use state::Settings;
 
-// What an event does: the answer so far, the host afterwards, what is sent and to whom, and whether its slot is emptied.
+// What an event does: the answer so far, the host afterwards, what is sent and to whom, and whether
+// its slot is emptied.
 pub struct Change {
     pub answer: u8,
     pub host: Host,
@@ -117,7 +120,8 @@ fn deliver_change(s: Settings, h: Host, content: Content) -> Change
     }
 }
 
-// Where the slot is empty, 12 refuses: whether it is then freed makes no difference, and one row serves both.
+// Where the slot is empty, 12 refuses: whether it is then freed makes no difference, and one row
+// serves both.
 fn lose_change(h: Host, content: Content) -> Change
     ensures { λ r. ⌜ r ≡ loseChange h content ⌝ }
 {

@@ -1,5 +1,6 @@
-// An event carried out: the change that it makes, found from small values (crate `change`), is committed to the cell in place. `apply`
-// tests the cell's limits first; `apply_within` supposes them, so that a loop over events tests nothing again.
+// An event carried out: the change that it makes, found from small values (crate `change`), is
+// committed to the cell in place. `apply` tests the cell's limits first; `apply_within` supposes
+// them, so that a loop over events tests nothing again.
 ghost use mathlib.Core.Path.{_≡_};
 ghost use mathlib.Core.Bool.{true};
 ghost use Rattle.cell.specs.CellLimits.{cellOk};
@@ -15,8 +16,9 @@ use cell::Event;
 use host::Sent;
 use slots::SLOTS;
 
-// Any event, of a cell within its limits. Nothing of the cell is stored to before the last refusal is passed. The cell is handed to no
-// other function on the way, since that would copy it: so this one is long, and has a loop for each walk.
+// Any event, of a cell within its limits. Nothing of the cell is stored to before the last refusal
+// is passed. The cell is handed to no other function on the way, since that would copy it: so this
+// one is long, and has a loop for each walk.
 pub fn apply_within(mut a: Answered, e: Event) -> Answered
     requires { ⌜ cellOk (cellOf a) ≡ true ⌝ }
     ensures { λ r. ⌜ r ≡ eventOf (cellOf a) e ⌝ }

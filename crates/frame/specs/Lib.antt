@@ -1,3 +1,4 @@
+-- Reading and writing; Claims and Examples say what is proved of them; Parts needs no belief.
 pub mod Reading
 pub mod Writing
 pub mod Parts

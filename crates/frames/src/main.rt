@@ -1,5 +1,6 @@
-// Shows frames being read and written: document 01's P11 and P12, each kind once, each refusal once, and for each kind all 65,536
-// values of the length field, counted by answer. Its output is held to the file stdout.
+// Shows frames being read and written: document 01's P11 and P12, each kind once, each refusal
+// once, and for each kind all 65,536 values of the length field, counted by answer. Its output is
+// held to the file stdout.
 ghost use Prim.Native.Nat.{_≤_};
 use message::LEARN;
 use message::PREPARE_REQUEST;

@@ -1,5 +1,6 @@
--- The outcomes of a host's step, one for each thing that a start or a message can do to a host. The tree of a step is walked here, by
--- `outcome`; what holds of every step is then said by a clause for each outcome. Assumes nothing.
+-- The outcomes of a host's step, one for each thing that a start or a message can do to a host. The
+-- tree of a step is walked here, by `outcome`; what holds of every step is then said by a clause
+-- for each outcome. Assumes nothing.
 use mathlib.Core.Path.{_≡_, refl}
 use mathlib.Core.Bool.{true, false}
 use Prim.Native.Nat.{ℕ}

@@ -1,4 +1,5 @@
--- What a step that refuses nothing tells of its host and of what it is handed, and that a reply of a host that was counted changes nothing. Assumes nothing.
+-- What a step that refuses nothing tells of its host and of what it is handed, and that a reply of
+-- a host that was counted changes nothing. Assumes nothing.
 use mathlib.Core.Path.{_≡_, refl, sym, ap, _∙_}
 use mathlib.Core.Bool.{Bool, true, false, cond, not}
 use mathlib.Core.List.{[]}
@@ -79,7 +80,8 @@ message-in s h m e =
     let p1 = unless-passed (hostOk s h) refusedCell _ refl e in
     (host-in s h (p1 .0), first-passed (faultOf (sizesOf s) (numbersOf m)) _ (p1 .1) .0)
 
--- a host within its limits refuses no restart, and no message in which writing refuses nothing and that is for it
+-- a host within its limits refuses no restart, and no message in which writing refuses nothing and
+-- that is for it
 pub restart-passed : (s : Settings) (h : Host) → hostOk s h ≡ true → restartRefusal s h ≡ done
 unfolding restartRefusal firstOf
 restart-passed s h e = rw e

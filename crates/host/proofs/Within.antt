@@ -1,5 +1,5 @@
--- A step that is done keeps a host within its limits, and writing refuses nothing in what it sends: by a clause for each outcome. Then
--- what holds of every step, refused or done. Assumes nothing.
+-- A step that is done keeps a host within its limits, and writing refuses nothing in what it sends:
+-- by a clause for each outcome. Then what holds of every step, refused or done. Assumes nothing.
 use mathlib.Core.Path.{_≡_, refl, sym, _∙_}
 use mathlib.Core.Bool.{true}
 use Prim.Native.Nat.{ℕ, _+_, _-_, _^_, _≤_, _<_}
@@ -117,7 +117,8 @@ idle-ok : (s : Settings) (number : ℕ) → roundOk s number Round.Idle ≡ true
 unfolding roundOk
 idle-ok s number = refl
 
--- ---- a step that was done and is fine: its host is within its limits, and writing refuses nothing in what it sends
+-- ---- a step that was done and is fine: its host is within its limits, and writing refuses nothing
+-- in what it sends
 
 pub record Fine (s : Settings) (step : Stepped) : Type 0 where
   pub number : step .answer ≡ done

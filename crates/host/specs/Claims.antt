@@ -1,4 +1,5 @@
--- What is claimed of the steps of one host, in one place; proofs/Claims.antt proves it. Assumes nothing.
+-- What is claimed of the steps of one host, in one place; proofs/Claims.antt proves it. Assumes
+-- nothing.
 use Prim.Native.Nat.{ℕ}
 use mathlib.Core.Path.{_≡_}
 use mathlib.Core.Bool.{Bool, true, false, not}
@@ -84,9 +85,12 @@ isDecidingVote s h (Learn m) = false
 -- the step is done, the host is not waiting, and its own majority names a holder by it
 unfoldable pub namedByMajority : Settings → Host → Message → Bool
 namedByMajority s h m =
-    allOf
-    (eqb (receiveRefusal s h m) done ∷ not (isWaiting (h .clock) (h .wait)) ∷ isDecidingVote s h m
-    ∷ [])
+    allOf (
+    eqb (receiveRefusal s h m) done
+    ∷ not (isWaiting (h .clock) (h .wait))
+    ∷ isDecidingVote s h m
+    ∷ []
+    )
 
 -- the host after it: its round is idle, and it names the owner of its proposal, replacing or not
 abbrev pub namingHost : Settings → Host → Proposing → Host
@@ -119,7 +123,8 @@ pub record Claims : Type 0 where
   pub vote-once : (s : Settings) (h : Host) (p : Proposing) (m : Head)
       → h .state .round ≡ Round.Proposing p → isIn (p .replied) (m .sender) ≡ true
       → let r = ProposeResponse m in receiveOf s h r ≡ refusedWith (receiveRefusal s h r) h
-  -- a naming by its own majority ends the host's proposing round and names the owner of its proposal
+  -- a naming by its own majority ends the host's proposing round and names the owner of its
+  -- proposal
   pub majority-names : (s : Settings) (h : Host) (m : Message) → namedByMajority s h m ≡ true
       → (p : Proposing) × (h .state .round ≡ Round.Proposing p)
       × (receiveOf s h m .host ≡ namingHost s h p)

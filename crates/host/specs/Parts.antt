@@ -1,4 +1,5 @@
--- What the code of a step supposes behind its refusals, in the shape of the code. No claim rests on it. Assumes nothing.
+-- What the code of a step supposes behind its refusals, in the shape of the code. No claim rests on
+-- it. Assumes nothing.
 use mathlib.Core.Path.{_≡_}
 use mathlib.Core.Bool.{true}
 use Prim.Native.Nat.{_<_, _≤_, _^_}

@@ -1,4 +1,5 @@
--- The steps of one host, in document 01's order: what is refused and what is done, apart. Assumes nothing.
+-- The steps of one host, in document 01's order: what is refused and what is done, apart. Assumes
+-- nothing.
 use Prim.Native.Nat.{ℕ, _+_, _^_}
 use mathlib.Core.Bool.{Bool, cond, not}
 use mathlib.Core.List.{[], _∷_}
@@ -115,7 +116,8 @@ withNamed h r m =
       named = m;
     })
 
--- the target of a message that is handed to a set of receivers: free in document 01, and not looked at by writing to a set
+-- the target of a message that is handed to a set of receivers: free in document 01, and not looked
+-- at by writing to a set
 abbrev pub anyTarget : ℕ
 anyTarget = 0
 
@@ -126,11 +128,15 @@ headFrom h b = headWith (h .number) anyTarget b
 
 unfoldable pub advanceRefusal : Settings → Host → ℕ → ℕ
 advanceRefusal s h d =
-    firstOf
-    (unless (hostOk s h) refusedCell ∷ unless (not (eqb d 0)) refusedClock
-    ∷ unless (leb (h .clock + d) lastTick) refusedClock ∷ [])
+    firstOf (
+    unless (hostOk s h) refusedCell
+    ∷ unless (not (eqb d 0)) refusedClock
+    ∷ unless (leb (h .clock + d) lastTick) refusedClock
+    ∷ []
+    )
 
--- 'the clock .. go up by d. A host whose clock moved then drops an accepted lease or named holder whose end is at or below its clock'
+-- 'the clock .. go up by d. A host whose clock moved then drops an accepted lease or named holder
+-- whose end is at or below its clock'
 unfoldable pub advancedHost : Host → ℕ → Host
 advancedHost h d =
     record {
@@ -227,7 +233,8 @@ askingAfter a sender reply =
       kept = higherOf (a .kept) reply;
     }
 
--- 'if the resulting end is at or below its clock the round becomes idle; else it is proposing and sends to all n'
+-- 'if the resulting end is at or below its clock the round becomes idle; else it is proposing and
+-- sends to all n'
 unfoldable pub onMajority : Settings → Host → Ballot → Value → Stepped
 onMajority s h b k =
     cond (leb (k .end .0) (h .clock)) (quietWith (withRound h Round.Idle))
@@ -249,7 +256,8 @@ onCountedReply s h before a =
     cond (actsOn (s .n) before (a .replied)) (onMajority s h (a .ballot) (proposedValue s h a))
     (quietWith (withRound h (Round.Asking a)))
 
--- 'to the ballot being asked, from a host not yet counted: if it carries a lease whose end is at or below the receiver's clock, it is discarded'
+-- 'to the ballot being asked, from a host not yet counted: if it carries a lease whose end is at or
+-- below the receiver's clock, it is discarded'
 unfoldable pub onReply : Settings → Host → Asking → Head → Accepted → Stepped
 onReply s h a m reply =
     cond (isSame (a .ballot) (m .ballot))
@@ -270,7 +278,8 @@ onPrepareResponse s h (Round.Proposing p) m reply = quietWith h
 abbrev pub leaseOf : Proposal → Lease
 leaseOf m = record { ballot = m .head .ballot; owner = m .owner; end = m .end }
 
--- 'nothing if its end is at or below the clock, or its ballot is below the promise. Else promise that ballot, accept, reply'
+-- 'nothing if its end is at or below the clock, or its ballot is below the promise. Else promise
+-- that ballot, accept, reply'
 unfoldable pub onProposeRequest : Host → Proposal → Stepped
 onProposeRequest h m =
     cond (mayAccept (h .state .promised) (h .clock) (leaseOf m))
@@ -361,9 +370,12 @@ onDelivery s h m = cond (isWaiting (h .clock) (h .wait)) (quietWith h) (onMessag
 -- 1, then as writing to its target refuses it, then 7 where its target is another host
 unfoldable pub receiveRefusal : Settings → Host → Message → ℕ
 receiveRefusal s h m =
-    firstOf
-    (unless (hostOk s h) refusedCell ∷ faultOf (sizesOf s) (numbersOf m)
-    ∷ unless (eqb (targetOf m) (h .number)) refusedParty ∷ [])
+    firstOf (
+    unless (hostOk s h) refusedCell
+    ∷ faultOf (sizesOf s) (numbersOf m)
+    ∷ unless (eqb (targetOf m) (h .number)) refusedParty
+    ∷ []
+    )
 
 unfoldable pub receiveOf : Settings → Host → Message → Stepped
 receiveOf s h m = stepWith (receiveRefusal s h m) h (onDelivery s h m)

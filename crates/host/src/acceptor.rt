@@ -47,7 +47,8 @@ impl Host {
         )
     }
 
-    // A lease whose end is to come and whose ballot is not below the promise is accepted, and its ballot promised.
+    // A lease whose end is to come and whose ballot is not below the promise is accepted, and its
+    // ballot promised.
     pub(super) fn on_propose_request(self, m: Proposal) -> Stepped
         requires { ⌜ m .head .ballot .host < 16 ⌝ }
         ensures { λ r. ⌜ r ≡ onProposeRequest self m ⌝ }

@@ -1,11 +1,17 @@
-// One host of one sheet: proposer, acceptor and learner. This crate is the rule book: a method for each event or message that hands
-// the host back with the answer, at most one message and the set of its receivers. A refusal hands back the same host and no message.
+// One host of one sheet: proposer, acceptor and learner. This crate is the rule book: a method for
+// each event or message that hands the host back with the answer, at most one message and the set
+// of its receivers. A refusal hands back the same host and no message.
 ghost use mathlib.Core.Path.{_≡_};
 ghost use Prim.Native.Nat.{_+_, _≤_};
-ghost use Rattle.message.specs.declared.Message.the-variants.{PrepareRequest, PrepareResponseEmpty, PrepareResponseLease, ProposeRequest, ProposeResponse, Learn};
+ghost use Rattle.message.specs.declared.Message.the-variants.{PrepareRequest, PrepareResponseEmpty};
+ghost use Rattle.message.specs.declared.Message.the-variants.{PrepareResponseLease, ProposeRequest};
+ghost use Rattle.message.specs.declared.Message.the-variants.{ProposeResponse, Learn};
 ghost use Rattle.message.specs.Message.{lastTick};
 ghost use Rattle.host.specs.Parts.{Handed};
-ghost use Rattle.host.specs.Steps.{hostOk, unsentWith, refusedWith, quietWith, sendingWith, withState, withRound, withVote, withNamed, headFrom, advancedHost, advanceOf, restartedHost, restartOf, startOf, onMessage, onDelivery, receiveOf};
+ghost use Rattle.host.specs.Steps.{hostOk, unsentWith, refusedWith, quietWith, sendingWith};
+ghost use Rattle.host.specs.Steps.{withState, withRound, withVote, withNamed, headFrom};
+ghost use Rattle.host.specs.Steps.{advancedHost, advanceOf, restartedHost, restartOf};
+ghost use Rattle.host.specs.Steps.{startOf, onMessage, onDelivery, receiveOf};
 use base::DONE;
 use base::REFUSED_CELL;
 use base::REFUSED_CLOCK;
@@ -37,7 +43,8 @@ pub const LAST_WAIT: u64 = 281479271677952;
 // The target of a message that is handed to a set of receivers: it is not looked at.
 const ANY_TARGET: u8 = 0;
 
-// A host's number in its cell, its clock, the tick at which its wait ends, and what it keeps of the sheet.
+// A host's number in its cell, its clock, the tick at which its wait ends, and what it keeps of the
+// sheet.
 pub struct Host {
     pub number: u8,
     pub clock: u64,
@@ -190,8 +197,8 @@ impl Host {
         }
     }
 
-    // The clock rises by d; an accepted lease or a named holder whose end has come is dropped. Refused by 1
-    // and 15.
+    // The clock rises by d; an accepted lease or a named holder whose end has come is dropped.
+    // Refused by 1 and 15.
     pub fn advance(self, s: Settings, d: u64) -> Stepped
         ensures { λ r. ⌜ r ≡ advanceOf s self d ⌝ }
     {
@@ -231,8 +238,8 @@ impl Host {
         quiet_with(self.restarted_host(s))
     }
 
-    // Begins a round for a lease of so many ticks: any old round is dropped, and a prepare request goes to all
-    // hosts. Refused by 1, 9, 11 and 10, in this order.
+    // Begins a round for a lease of so many ticks: any old round is dropped, and a prepare request
+    // goes to all hosts. Refused by 1, 9, 11 and 10, in this order.
     pub fn start(self, s: Settings, duration: u32) -> Stepped
         ensures { λ r. ⌜ r ≡ startOf s self duration ⌝ }
     {
@@ -291,7 +298,8 @@ impl Host {
         self.on_message(s, m)
     }
 
-    // Takes a message of any kind: refused as writing to its target refuses it, and by 7 where its target is another host.
+    // Takes a message of any kind: refused as writing to its target refuses it, and by 7 where its
+    // target is another host.
     pub fn receive(self, s: Settings, m: Message) -> Stepped
         ensures { λ r. ⌜ r ≡ receiveOf s self m ⌝ }
     {
@@ -309,46 +317,48 @@ impl Host {
         self.on_delivery(s, m)
     }
 
-    // Promises a ballot above its promise, and replies with the accepted lease or empty. Refused as `receive`.
+    // Promises a ballot above its promise, and replies with the accepted lease or empty. Refused as
+    // `receive`.
     pub fn prepare_request(self, s: Settings, m: Head) -> Stepped
         ensures { λ r. ⌜ r ≡ receiveOf s self (PrepareRequest m) ⌝ }
     {
         self.receive(s, Message::PrepareRequest(m))
     }
 
-    // Counts an empty reply to the ballot that it asks; with a majority it proposes. Refused as `receive`.
+    // Counts an empty reply to the ballot that it asks; with a majority it proposes. Refused as
+    // `receive`.
     pub fn prepare_response_empty(self, s: Settings, m: Head) -> Stepped
         ensures { λ r. ⌜ r ≡ receiveOf s self (PrepareResponseEmpty m) ⌝ }
     {
         self.receive(s, Message::PrepareResponseEmpty(m))
     }
 
-    // Counts a reply that tells of a lease, unless that has ended, and keeps the one with the highest ballot;
-    // with a majority it proposes. Refused as `receive`.
+    // Counts a reply that tells of a lease, unless that has ended, and keeps the one with the
+    // highest ballot; with a majority it proposes. Refused as `receive`.
     pub fn prepare_response_lease(self, s: Settings, m: LeaseResponse) -> Stepped
         ensures { λ r. ⌜ r ≡ receiveOf s self (PrepareResponseLease m) ⌝ }
     {
         self.receive(s, Message::PrepareResponseLease(m))
     }
 
-    // Accepts a lease whose end is to come and whose ballot is not below its promise, promises that ballot, and
-    // replies. Refused as `receive`.
+    // Accepts a lease whose end is to come and whose ballot is not below its promise, promises that
+    // ballot, and replies. Refused as `receive`.
     pub fn propose_request(self, s: Settings, m: Proposal) -> Stepped
         ensures { λ r. ⌜ r ≡ receiveOf s self (ProposeRequest m) ⌝ }
     {
         self.receive(s, Message::ProposeRequest(m))
     }
 
-    // Counts a vote for the ballot that it proposes; with a majority it names the owner and tells the others.
-    // Refused as `receive`.
+    // Counts a vote for the ballot that it proposes; with a majority it names the owner and tells
+    // the others. Refused as `receive`.
     pub fn propose_response(self, s: Settings, m: Head) -> Stepped
         ensures { λ r. ⌜ r ≡ receiveOf s self (ProposeResponse m) ⌝ }
     {
         self.receive(s, Message::ProposeResponse(m))
     }
 
-    // Names the owner of a lease whose holder's end is to come, unless it names one of a ballot as high. Refused
-    // as `receive`.
+    // Names the owner of a lease whose holder's end is to come, unless it names one of a ballot as
+    // high. Refused as `receive`.
     pub fn learn(self, s: Settings, m: LearnedLease) -> Stepped
         ensures { λ r. ⌜ r ≡ receiveOf s self (Learn m) ⌝ }
     {

@@ -1,9 +1,13 @@
-// A host as proposer: a round begun, the replies to it counted, a lease proposed, and the votes for it counted.
+// A host as proposer: a round begun, the replies to it counted, a lease proposed, and the votes for
+// it counted.
 ghost use mathlib.Core.Path.{_≡_};
 ghost use mathlib.Core.Bool.{true};
 ghost use Prim.Native.Nat.{_<_};
 ghost use Rattle.host.specs.Parts.{Placed, Asks};
-ghost use Rattle.host.specs.Steps.{hostOk, askingHost, onStart, askingAfter, onMajority, proposedValue, onCountedReply, onReply, onPrepareResponse, proposingAfter, onChosen, onCountedVote, onVote, onProposeResponse};
+ghost use Rattle.host.specs.Steps.{hostOk, askingHost, onStart, askingAfter, onMajority};
+ghost use Rattle.host.specs.Steps.{proposedValue, onCountedReply, onReply, onPrepareResponse};
+ghost use Rattle.host.specs.Steps.{proposingAfter, onChosen, onCountedVote, onVote};
+ghost use Rattle.host.specs.Steps.{onProposeResponse};
 use super::Host;
 use super::Stepped;
 use super::quiet_with;

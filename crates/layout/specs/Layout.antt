@@ -1,4 +1,5 @@
--- The layout of frames: document 01's fields, their widths and their order, and a frame's bytes as numbers and back. Assumes nothing.
+-- The layout of frames: document 01's fields, their widths and their order, and a frame's bytes as
+-- numbers and back. Assumes nothing.
 use Prim.Native.Nat.{ℕ, _+_, _^_, _<_}
 use mathlib.Core.Bool.{cond}
 use mathlib.Core.List.{List, [], _∷_, _++_, map}

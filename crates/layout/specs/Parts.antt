@@ -1,4 +1,5 @@
--- The groups of fields that the code reads together, and the room that it writes into. Assumes nothing.
+-- The groups of fields that the code reads together, and the room that it writes into. Assumes
+-- nothing.
 use mathlib.Core.Path.{_≡_}
 use mathlib.Core.List.{List}
 use Prim.Native.Nat.{ℕ, _≤_}

@@ -1,5 +1,5 @@
-// Where each field of a frame stands: a message's numbers read from lent bytes and written into them. An end is a plain number
-// only here, between its field and its own type.
+// Where each field of a frame stands: a message's numbers read from lent bytes and written into
+// them. An end is a plain number only here, between its field and its own type.
 ghost use mathlib.Core.Path.{_≡_};
 ghost use mathlib.Core.List.{[], _∷_};
 ghost use Prim.Native.Nat.{_+_, _≤_};
@@ -7,7 +7,8 @@ ghost use lib.ListN.{length};
 ghost use lib.Seq.{sets};
 ghost use Rattle.wire.specs.Wire.{packed};
 ghost use Rattle.message.specs.Message.{prepareResponseLease};
-ghost use Rattle.layout.specs.Layout.{moreOf, kindLength, ballotOffset, headLength, bytesIn, bytesOf, numbersIn};
+ghost use Rattle.layout.specs.Layout.{moreOf, kindLength, ballotOffset, headLength, bytesIn};
+ghost use Rattle.layout.specs.Layout.{bytesOf, numbersIn};
 ghost use Rattle.layout.specs.Parts.{headAt, leaseAt, Room};
 use message::Ballot;
 use message::Head;
@@ -19,7 +20,8 @@ use message::Numbers;
 use message::PREPARE_RESPONSE_LEASE;
 use message::PROPOSE_REQUEST;
 
-// The table of offsets, which reading and writing share. Every frame begins with its head: length, kind, sender, target and ballot.
+// The table of offsets, which reading and writing share. Every frame begins with its head: length,
+// kind, sender, target and ballot.
 pub const LENGTH_AT: usize = 0;
 
 pub const KIND_AT: usize = 2;
@@ -132,7 +134,9 @@ pub fn numbers_at(s: &[u8], kind: u16) -> Numbers
 
 fn put_route(out: &mut [u8], len: usize, kind: u16, sender: u8, target: u8)
     requires { ⌜ ballotOffset ≤ length (now out) ⌝ }
-    ensures { λ _. ⌜ now (out .exit) ≡ sets (now (out .entry)) 0 (packed (2 ∷ 2 ∷ 1 ∷ 1 ∷ []) (len ∷ kind ∷ sender ∷ target ∷ [])) ⌝ }
+    ensures { λ _. ⌜ now (out .exit)
+        ≡ sets (now (out .entry)) 0
+        (packed (2 ∷ 2 ∷ 1 ∷ 1 ∷ []) (len ∷ kind ∷ sender ∷ target ∷ [])) ⌝ }
 {
     wire::put(out, LENGTH_AT, 2, len as u64);
     wire::put(out, KIND_AT, 2, kind as u64);
@@ -142,7 +146,8 @@ fn put_route(out: &mut [u8], len: usize, kind: u16, sender: u8, target: u8)
 
 fn put_ballot(out: &mut [u8], at: usize, b: Ballot)
     requires { ⌜ at + 9 ≤ length (now out) ⌝ }
-    ensures { λ _. ⌜ now (out .exit) ≡ sets (now (out .entry)) at (packed (8 ∷ 1 ∷ []) (b .tick ∷ b .host ∷ [])) ⌝ }
+    ensures { λ _. ⌜ now (out .exit)
+        ≡ sets (now (out .entry)) at (packed (8 ∷ 1 ∷ []) (b .tick ∷ b .host ∷ [])) ⌝ }
 {
     wire::put(out, at, 8, b.tick);
     wire::put(out, at + 8, 1, b.host as u64);
@@ -150,7 +155,8 @@ fn put_ballot(out: &mut [u8], at: usize, b: Ballot)
 
 fn put_value(out: &mut [u8], at: usize, owner: u8, end: u64)
     requires { ⌜ at + 9 ≤ length (now out) ⌝ }
-    ensures { λ _. ⌜ now (out .exit) ≡ sets (now (out .entry)) at (packed (1 ∷ 8 ∷ []) (owner ∷ end ∷ [])) ⌝ }
+    ensures { λ _. ⌜ now (out .exit)
+        ≡ sets (now (out .entry)) at (packed (1 ∷ 8 ∷ []) (owner ∷ end ∷ [])) ⌝ }
 {
     wire::put(out, at, 1, owner as u64);
     wire::put(out, at + 1, 8, end);
@@ -159,7 +165,8 @@ fn put_value(out: &mut [u8], at: usize, owner: u8, end: u64)
 // Writes the fields after those that every frame has.
 fn put_more(out: &mut [u8], f: Numbers)
     requires { ⌜ kindLength (f .kind) ≤ length (now out) ⌝ }
-    ensures { λ _. ⌜ now (out .exit) ≡ sets (now (out .entry)) headLength (bytesIn f (moreOf (f .kind))) ⌝ }
+    ensures { λ _. ⌜ now (out .exit)
+        ≡ sets (now (out .entry)) headLength (bytesIn f (moreOf (f .kind))) ⌝ }
 {
     let kind = f.kind;
     if kind == PREPARE_RESPONSE_LEASE {

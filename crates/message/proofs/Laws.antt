@@ -1,4 +1,5 @@
--- Laws of the order of ballots, of messages as numbers, of kinds, and of what is refused in a message. Assumes nothing.
+-- Laws of the order of ballots, of messages as numbers, of kinds, and of what is refused in a
+-- message. Assumes nothing.
 use mathlib.Core.Path.{_≡_, refl, sym}
 use mathlib.Core.Bool.{Bool, true, false, cond}
 use mathlib.Core.List.{[], _∷_}

@@ -10,7 +10,8 @@ use Rattle.message.specs.declared.Sizes.{Sizes}
 use Rattle.message.specs.declared.Numbers.{Numbers}
 use Rattle.message.specs.Message.{lastTick, lastEnd, isResponse}
 
--- the fields that a refusal may be found at: those of a frame, the settings handed in beside it, and the lent bytes themselves
+-- the fields that a refusal may be found at: those of a frame, the settings handed in beside it,
+-- and the lent bytes themselves
 pub data Field : Type 0 where
   settings : Field
   lentBytes : Field
@@ -77,7 +78,8 @@ refusalsOf z f = messageRefusals z f (ltb (f .target) (z .n)) (partyFits f)
 unfoldable pub faultOf : Sizes → Numbers → ℕ
 faultOf z f = answerBy (refusalsOf z f)
 
--- a message to a set of receivers, its own target not looked at: the set names no host of n or more, and in a response none but the ballot's host
+-- a message to a set of receivers, its own target not looked at: the set names no host of n or
+-- more, and in a response none but the ballot's host
 unfoldable pub partyFitsTo : Numbers → ℕ → Bool
 partyFitsTo f set =
     cond (isResponse (f .kind)) (isOnly set (f .ballot .host)) (eqb (f .sender) (f .ballot .host))

@@ -1,2 +1,3 @@
+-- Messages and their numbers, and what is refused in one.
 pub mod Message
 pub mod Faults

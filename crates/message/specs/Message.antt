@@ -61,7 +61,8 @@ learn = 6
 unfoldable pub knownKind : ℕ → Bool
 knownKind k = leb prepareRequest k && leb k learn
 
--- the kinds that answer a request: their target is the ballot's host, and of any other kind the sender is
+-- the kinds that answer a request: their target is the ballot's host, and of any other kind the
+-- sender is
 unfoldable pub isResponse : ℕ → Bool
 isResponse k = eqb k prepareResponseEmpty || (eqb k prepareResponseLease || eqb k proposeResponse)
 
@@ -108,7 +109,8 @@ numbersOf (Learn m) = numbersWith learn (m .head) noBallot (m .owner) noKeepers 
 abbrev pub headOf : Numbers → Head
 headOf f = headWith (f .sender) (f .target) (f .ballot)
 
--- the message that numbers of a kind are of; a number that is no kind is taken as a learn message's, and callers have refused it before, by 3
+-- the message that numbers of a kind are of; a number that is no kind is taken as a learn
+-- message's, and callers have refused it before, by 3
 unfoldable pub messageOf : Numbers → Message
 messageOf f =
     cond (eqb (f .kind) prepareRequest) (PrepareRequest (headOf f))

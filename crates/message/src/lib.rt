@@ -1,9 +1,14 @@
-// Ballots, the two ends of a lease, the six messages, their kinds, and what is refused in a message: 5, 6 and 7.
+// Ballots, the two ends of a lease, the six messages, their kinds, and what is refused in a
+// message: 5, 6 and 7.
 ghost use mathlib.Core.Path.{_≡_};
 ghost use Prim.Native.Nat.{_+_, _-_, _≤_};
 ghost use Rattle.base.specs.Refusals.{allHold, answerBy};
-ghost use Rattle.message.specs.Message.{lastEnd, isAbove, isSame, toHolders, toKeepers, knownKind, isResponse, headWith, numbersWith, numbersOf, headOf, messageOf, withTarget, addressedTo, targetOf};
-ghost use Rattle.message.specs.Faults.{sizesFit, hostTests, tickTests, messageRefusals, partyFits, partyFitsTo, faultOf, faultTo};
+ghost use Rattle.message.specs.Message.{lastEnd, isAbove, isSame, toHolders, toKeepers};
+ghost use Rattle.message.specs.Message.{knownKind, isResponse, headWith, numbersWith};
+ghost use Rattle.message.specs.Message.{numbersOf, headOf, messageOf, withTarget};
+ghost use Rattle.message.specs.Message.{addressedTo, targetOf};
+ghost use Rattle.message.specs.Faults.{sizesFit, hostTests, tickTests, messageRefusals};
+ghost use Rattle.message.specs.Faults.{partyFits, partyFitsTo, faultOf, faultTo};
 use base::DONE;
 use base::REFUSED_HOST;
 use base::REFUSED_PARTY;
@@ -153,7 +158,8 @@ pub fn known_kind(kind: u16) -> bool
     (PREPARE_REQUEST <= kind) & (kind <= LEARN)
 }
 
-// Whether a kind answers a request. A response's target is the ballot's host; of any other kind the sender is.
+// Whether a kind answers a request. A response's target is the ballot's host; of any other kind the
+// sender is.
 pub fn is_response(kind: u16) -> bool
     ensures { λ r. ⌜ r ≡ isResponse kind ⌝ }
 {
@@ -165,7 +171,8 @@ pub fn is_response(kind: u16) -> bool
     }
 }
 
-// A message as numbers. `numbers_of` gives 0 for those that the kind lacks, and `message_of` does not look at them.
+// A message as numbers. `numbers_of` gives 0 for those that the kind lacks, and `message_of` does
+// not look at them.
 pub struct Numbers {
     pub kind: u16,
     pub sender: u8,
@@ -264,8 +271,8 @@ pub fn head_of(f: Numbers) -> Head
     head_with(f.sender, f.target, ballot)
 }
 
-// The message that numbers of a kind are of; those that the kind lacks are not looked at. A number that is no kind is taken as a
-// learn message: callers have refused it before, by 3.
+// The message that numbers of a kind are of; those that the kind lacks are not looked at. A number
+// that is no kind is taken as a learn message: callers have refused it before, by 3.
 pub fn message_of(f: Numbers) -> Message
     ensures { λ r. ⌜ r ≡ messageOf f ⌝ }
 {
@@ -339,7 +346,8 @@ pub fn ticks_fit(f: Numbers) -> bool
         & ((f.accepted.tick <= LAST_TICK) & ((f.keepers.0 <= LAST_END) & (f.holders.0 <= LAST_END)))
 }
 
-// The number of the first refusal that a message's numbers meet, or 0, given what was found of its target and of its party.
+// The number of the first refusal that a message's numbers meet, or 0, given what was found of its
+// target and of its party.
 pub fn fault_with(z: Sizes, f: Numbers, target_ok: bool, party_ok: bool) -> u8
     ensures { λ r. ⌜ r ≡ answerBy (messageRefusals z f «target_ok» «party_ok») ⌝ }
 {

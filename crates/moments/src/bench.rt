@@ -1,5 +1,5 @@
-// Moments of the whole cell: one clock ahead, document 01's example as its listing shows it, the ends of the example's lease, and
-// messages delivered twice.
+// Moments of the whole cell: one clock ahead, document 01's example as its listing shows it, the
+// ends of the example's lease, and messages delivered twice.
 use crate::cast;
 use crate::show;
 use base::DONE;
@@ -121,8 +121,8 @@ fn again(a: Answered, ticks: u64, copy: u8) {
     show::accepted(b"  host 1 has accepted", host);
 }
 
-// A prepare delivered twice: the second sends nothing. A proposal and a learn message delivered twice, the second time a tick before
-// the end that they carry, and at it.
+// A prepare delivered twice: the second sends nothing. A proposal and a learn message delivered
+// twice, the second time a tick before the end that they carry, and at it.
 fn twice(asked: Answered, proposed: Answered, named: Answered) {
     again(repeated(b"prepare to host 1 repeated", asked, 1), 1, 3);
     let proposal = repeated(b"proposal to host 1 repeated", proposed, 1);

@@ -1,4 +1,5 @@
--- Laws of the first n hosts, each changed, and of the first number that one of them is refused by. Assumes nothing.
+-- Laws of the first n hosts, each changed, and of the first number that one of them is refused by.
+-- Assumes nothing.
 use mathlib.Core.Path.{_≡_, refl, ap, _∙_}
 use mathlib.Core.List.{List, [], _∷_, map}
 use Prim.Native.Nat.{ℕ, zero, suc, _+_, _≤_, _<_}

@@ -1,5 +1,5 @@
--- The hosts that opening sets, by their place: each of the first n as after a restart and within its limits, the others blank. Assumes
--- nothing.
+-- The hosts that opening sets, by their place: each of the first n as after a restart and within
+-- its limits, the others blank. Assumes nothing.
 use mathlib.Core.Path.{_≡_, refl, sym, ap, _∙_}
 use mathlib.Core.Bool.{true}
 use mathlib.Core.List.{List, [], _∷_, map}

@@ -1,5 +1,5 @@
--- What the limits of a place and of the state at it tell of a host, and the limits from that; how far apart the clocks are. Assumes
--- nothing.
+-- What the limits of a place and of the state at it tell of a host, and the limits from that; how
+-- far apart the clocks are. Assumes nothing.
 use mathlib.Core.Path.{_≡_, refl, ap}
 use mathlib.Core.Bool.{true}
 use mathlib.Core.List.{List}

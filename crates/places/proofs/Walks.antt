@@ -1,4 +1,5 @@
--- The walks over places, one step at a time: the span of their clocks, and an advance of all. Assumes nothing.
+-- The walks over places, one step at a time: the span of their clocks, and an advance of all.
+-- Assumes nothing.
 use mathlib.Core.Path.{_≡_, refl, sym, ap, _∙_}
 use mathlib.Core.Bool.{Bool, true, false}
 use mathlib.Core.List.{List, _∷_, map}

@@ -1,4 +1,5 @@
--- What the code that opens a cell supposes behind opening's refusals. No claim rests on it. Assumes nothing.
+-- What the code that opens a cell supposes behind opening's refusals. No claim rests on it. Assumes
+-- nothing.
 use mathlib.Core.Path.{_≡_}
 use mathlib.Core.Bool.{true}
 use Prim.Native.Nat.{ℕ, _≤_}

@@ -1,5 +1,5 @@
--- The nine places for hosts: the limits of what they hold, how far apart their clocks are, and what opening and an advance of all leave
--- there. Assumes nothing.
+-- The nine places for hosts: the limits of what they hold, how far apart their clocks are, and what
+-- opening and an advance of all leave there. Assumes nothing.
 use Prim.Native.Nat.{ℕ, zero, suc, _+_}
 use mathlib.Core.Bool.{Bool, cond}
 use mathlib.Core.List.{List, [], _∷_, map}
@@ -23,14 +23,16 @@ blankHost = record { number = 0; clock = 0; wait = 0; state = blankState }
 
 -- ---- limits, of a place and of the state that stands at it, apart
 
--- 1 where it does not hold: 'a host's number is not its place', or its clock or its wait is past its limit; at n or above a number is not 0
+-- 1 where it does not hold: 'a host's number is not its place', or its clock or its wait is past
+-- its limit; at n or above a number is not 0
 unfoldable pub placeOk : Settings → ℕ → Host → Bool
 placeOk s i h =
     cond (ltb i (s .n))
     (allOf (eqb (h .number) i ∷ leb (h .clock) lastTick ∷ leb (h .wait) lastWait ∷ []))
     (allOf (eqb (h .number) 0 ∷ eqb (h .clock) 0 ∷ eqb (h .wait) 0 ∷ []))
 
--- 1 where it does not hold: the state of host i is past its limits; at n or above something in it is not none
+-- 1 where it does not hold: the state of host i is past its limits; at n or above something in it
+-- is not none
 unfoldable pub stateAtOk : Settings → ℕ → State → Bool
 stateAtOk s i t = cond (ltb i (s .n)) (stateOk s i t) (isBlankState t)
 

@@ -1,9 +1,10 @@
-// The nine places for hosts: whether what they hold is within its limits, how far apart their clocks are, and what opening leaves
-// there.
+// The nine places for hosts: whether what they hold is within its limits, how far apart their
+// clocks are, and what opening leaves there.
 ghost use mathlib.Core.Path.{_≡_};
 ghost use Prim.Native.Nat.{_<_, _≤_, _-_, max, min};
 ghost use lib.Dec.{leb};
-ghost use Rattle.places.specs.Places.{placeOk, stateAtOk, placesOk, statesOk, clocksOk, newHost, newHosts};
+ghost use Rattle.places.specs.Places.{placeOk, stateAtOk, placesOk, statesOk, clocksOk};
+ghost use Rattle.places.specs.Places.{newHost, newHosts};
 ghost use Rattle.places.specs.Parts.{Opens};
 use host::Host;
 use host::LAST_WAIT;
@@ -93,7 +94,8 @@ fn spread_ok(s: Settings, low: u64, high: u64) -> bool
     high - low <= s.spread as u64
 }
 
-// Whether the clocks of the n hosts are at most S apart: the largest and the smallest are found in one walk.
+// Whether the clocks of the n hosts are at most S apart: the largest and the smallest are found in
+// one walk.
 pub fn clocks_ok(s: Settings, hosts: [Host; 9]) -> bool
     requires { ⌜ (1 ≤ s .n) × (s .n ≤ 9) ⌝ }
     ensures { λ r. ⌜ r ≡ clocksOk s hosts ⌝ }

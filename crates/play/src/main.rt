@@ -1,6 +1,6 @@
-// Document 01's example over and over, in two loops that look at a host after each event: through `apply`, which tests the cell's
-// limits each time, and through `apply_within`, with the limits carried by the loop and tested never again. It is what is timed, and
-// whose copies are counted.
+// Document 01's example over and over, in two loops that look at a host after each event: through
+// `apply`, which tests the cell's limits each time, and through `apply_within`, with the limits
+// carried by the loop and tested never again. It is what is timed, and whose copies are counted.
 use base::DONE;
 use cell::Event;
 use rules::Named;
@@ -10,7 +10,8 @@ const ROUNDS: u64 = 20000;
 
 const EVENTS: u64 = 14;
 
-// How many events were refused, and after how many of them the host that is looked at names a holder.
+// How many events were refused, and after how many of them the host that is looked at names a
+// holder.
 struct Tally {
     refused: u64,
     named: u64,

@@ -1,4 +1,5 @@
-// Words, numbers and line ends on standard output, for the programs that show what the libraries do.
+// Words, numbers and line ends on standard output, for the programs that show what the libraries
+// do.
 use libc::STDOUT_FILENO;
 
 // Writes these bytes as they are.

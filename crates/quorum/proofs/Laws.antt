@@ -1,4 +1,5 @@
--- Laws of sets of hosts: membership, the set of one host, and the list of a set's hosts. Assumes nothing.
+-- Laws of sets of hosts: membership, the set of one host, and the list of a set's hosts. Assumes
+-- nothing.
 use mathlib.Core.Path.{_≡_, refl, sym, ap, _∙_}
 use mathlib.Core.Bool.{Bool, true, false, cond, _||_}
 use mathlib.Core.List.{List, [], _∷_}

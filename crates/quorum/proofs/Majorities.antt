@@ -1,5 +1,5 @@
--- Laws of counting: adding a host to a set, a set's size as a sum over the hosts, and that two majorities share a host, with a weight
--- for each host. Assumes nothing.
+-- Laws of counting: adding a host to a set, a set's size as a sum over the hosts, and that two
+-- majorities share a host, with a weight for each host. Assumes nothing.
 use mathlib.Core.Path.{_≡_, refl, sym, ap, ap₂, _∙_}
 use mathlib.Core.Bool.{true, false}
 use Prim.Native.Nat.{ℕ, zero, suc, _+_, _*_, _/_, _%_, _^_, _<_, max}

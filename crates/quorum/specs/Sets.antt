@@ -1,4 +1,5 @@
--- A cell's hosts are numbered from 0; a set of hosts is a number with one bit a host. Assumes nothing.
+-- A cell's hosts are numbered from 0; a set of hosts is a number with one bit a host. Assumes
+-- nothing.
 use Prim.Native.Nat.{ℕ, zero, suc, _+_, _-_, _/_, _%_, _^_, _<_}
 use mathlib.Core.Path.{_≡_}
 use mathlib.Core.Bool.{Bool, true, cond, _&&_, _||_}

@@ -1,7 +1,8 @@
 // How many hosts a cell may have, and sets of them: a u16 with one bit a host.
 ghost use mathlib.Core.Path.{_≡_};
 ghost use Prim.Native.Nat.{_<_};
-ghost use Rattle.quorum.specs.Sets.{cellFits, isIn, singleOf, withHost, everyoneOf, othersOf, isBelow, isOnly, sizeOf, isMajority};
+ghost use Rattle.quorum.specs.Sets.{cellFits, isIn, singleOf, withHost, everyoneOf, othersOf};
+ghost use Rattle.quorum.specs.Sets.{isBelow, isOnly, sizeOf, isMajority};
 
 // The most hosts that a cell may have.
 pub const MOST_HOSTS: u8 = 9;

@@ -1,4 +1,5 @@
--- Laws of the leaf rules. Agreement and the limits stand on them, and a build whose rule is another does not have them. Assumes nothing.
+-- Laws of the leaf rules. Agreement and the limits stand on them, and a build whose rule is another
+-- does not have them. Assumes nothing.
 use mathlib.Core.Path.{_≡_, refl, sym, ap}
 use mathlib.Core.Bool.{Bool, true, false, cond, not}
 use Prim.Native.Nat.{ℕ, _+_, _≤_, _<_}
@@ -27,7 +28,8 @@ use Rattle.rules.specs.Rules.{namingBound, isNamable, namedBy}
 
 -- ---- waiting, time and restart
 
--- the wait outlasts every lease proposed before it: its ballot's tick is at most S above the clock, and its end at most T later
+-- the wait outlasts every lease proposed before it: its ballot's tick is at most S above the clock,
+-- and its end at most T later
 pub wait-outlasts : (clock longest spread tick end : ℕ) → tick ≤ clock + spread
     → end ≤ tick + longest → end ≤ waitEnd clock longest spread
 unfolding waitEnd
@@ -104,7 +106,8 @@ pub earlier-kept : (a b : Lease) → a .ballot ≡ b .ballot
 unfolding higherOf
 earlier-kept a b e = rw (e, above-itself (b .ballot))
 
--- of two replies one is kept that the other's ballot is not above; an empty one is below every other
+-- of two replies one is kept that the other's ballot is not above; an empty one is below every
+-- other
 abbrev pub NotAbove : Accepted → Accepted → Type 0
 NotAbove Accepted.Nothing b = Unit {0}
 NotAbove (Accepted.One a) Accepted.Nothing = ⊥
@@ -139,7 +142,8 @@ pub acts-first : (n before after : ℕ) → isMajority n before ≡ false
 unfolding actsOn
 acts-first n before after e = rw e
 
--- the lease to propose is one's own where none was kept, where the kept one has ended, or where it is one's own and ends no later; else the kept one
+-- the lease to propose is one's own where none was kept, where the kept one has ended, or where it
+-- is one's own and ends no later; else the kept one
 pub data ToPropose (number clock : ℕ) (own : KeepersEnd) : Accepted → Value → Type 0 where
   free : ToPropose number clock own Accepted.Nothing (value number own)
   ended : (l : Lease) → l .end .0 ≤ clock

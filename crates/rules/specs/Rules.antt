@@ -1,4 +1,5 @@
--- The leaf rules of a host, in document 01's order, each with the sentence it stands for. Assumes nothing.
+-- The leaf rules of a host, in document 01's order, each with the sentence it stands for. Assumes
+-- nothing.
 use Prim.Native.Nat.{ℕ, _+_}
 use mathlib.Core.Bool.{Bool, true, false, cond, not}
 use lib.Dec.{ltb, leb, eqb}
@@ -84,7 +85,8 @@ higherOf (Accepted.One a) (Accepted.One b) =
 unfoldable pub actsOn : ℕ → ℕ → ℕ → Bool
 actsOn n before after = cond (isMajority n before) false (isMajority n after)
 
--- 'the host's own, ending at ballot tick + duration + S': its holder's end is ballot tick + duration
+-- 'the host's own, ending at ballot tick + duration + S': its holder's end is ballot tick +
+-- duration
 abbrev pub ownEnd : ℕ → ℕ → ℕ → KeepersEnd
 ownEnd tick duration spread = toKeepers (record { 0 = tick + duration }) spread
 
@@ -95,8 +97,8 @@ value o e = record { owner = o; end = e }
 abbrev pub ownIsLater : KeepersEnd → Lease → Bool
 ownIsLater own l = leb (l .end .0) (own .0)
 
--- 'if no lease was kept, or its end has come, the lease is the host's own'; 'if the kept lease is its own, the later of that end and
--- the kept one'; 'else the kept lease unchanged'
+-- 'if no lease was kept, or its end has come, the lease is the host's own'; 'if the kept lease is
+-- its own, the later of that end and the kept one'; 'else the kept lease unchanged'
 unfoldable pub valueToPropose : ℕ → ℕ → KeepersEnd → Accepted → Value
 valueToPropose number clock own Accepted.Nothing = value number own
 valueToPropose number clock own (Accepted.One l) =

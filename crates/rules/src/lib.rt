@@ -1,9 +1,13 @@
-// The leaf rules of a host: what is promised, accepted, kept, proposed, named and dropped, and when a round acts. Each is one
-// sentence of document 01, as a free function on small values; the host's methods only put them together.
+// The leaf rules of a host: what is promised, accepted, kept, proposed, named and dropped, and when
+// a round acts. Each is one sentence of document 01, as a free function on small values; the host's
+// methods only put them together.
 ghost use mathlib.Core.Path.{_≡_};
 ghost use Prim.Native.Nat.{_<_, _≤_, _^_};
 ghost use Rattle.message.specs.Message.{lastTick};
-ghost use Rattle.rules.specs.Rules.{mayPromise, isForbidden, mayAccept, acceptedAt, namedAt, hasEnded, waitEnd, ballotAt, isFresh, countsReply, higherOf, ownEnd, valueToPropose, actsOn, isNamable, namedBy, afterAccept, isWaiting};
+ghost use Rattle.rules.specs.Rules.{mayPromise, isForbidden, mayAccept, acceptedAt, namedAt};
+ghost use Rattle.rules.specs.Rules.{hasEnded, waitEnd, ballotAt, isFresh, countsReply};
+ghost use Rattle.rules.specs.Rules.{higherOf, ownEnd, valueToPropose, actsOn, isNamable};
+ghost use Rattle.rules.specs.Rules.{namedBy, afterAccept, isWaiting};
 use message::Ballot;
 use message::HoldersEnd;
 use message::KeepersEnd;

@@ -1,5 +1,5 @@
--- Laws of the messages under way: what holds of each of them stays so when a slot is freed or a message placed, the slots stay as
--- many, and a filled one is left alone. Assumes nothing.
+-- Laws of the messages under way: what holds of each of them stays so when a slot is freed or a
+-- message placed, the slots stay as many, and a filled one is left alone. Assumes nothing.
 use mathlib.Core.Path.{_≡_, refl, ap, _∙_}
 use mathlib.Core.Bool.{Bool, true, false, cond}
 use mathlib.Core.List.{List, [], _∷_}
@@ -73,7 +73,8 @@ gained-counts frees (s ∷ ss) (suc i) h =
     go true x y z e = omega (arith, e)
     go false x y z e = e
 
--- ---- a slot that holds a message is left alone by placing, to any receivers, and by freeing another
+-- ---- a slot that holds a message is left alone by placing, to any receivers, and by freeing
+-- another
 
 abbrev pub Filled : List Slot → ℕ → Type 0
 Filled ss j = isEmpty (getD ss j emptySlot .content) ≡ false

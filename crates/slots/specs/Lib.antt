@@ -1,2 +1,3 @@
+-- The messages under way; Parts needs no belief.
 pub mod Slots
 pub mod Parts

@@ -1,5 +1,6 @@
--- What the code does to one slot at a time: the slot that an event is about, and the turns of the walks that count and that place. No
--- claim rests on it: proofs/Laws and proofs/Walks tie it to the definitions of Slots. Assumes nothing.
+-- What the code does to one slot at a time: the slot that an event is about, and the turns of the
+-- walks that count and that place. No claim rests on it: proofs/Laws and proofs/Walks tie it to the
+-- definitions of Slots. Assumes nothing.
 use Prim.Native.Nat.{ℕ, suc, _+_}
 use mathlib.Core.Bool.{Bool, cond}
 use Rattle.quorum.specs.Sets.{isIn}

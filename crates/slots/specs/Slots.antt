@@ -1,4 +1,5 @@
--- The messages under way: which slots are empty, the lowest of them, placing a message and freeing a slot. Assumes nothing.
+-- The messages under way: which slots are empty, the lowest of them, placing a message and freeing
+-- a slot. Assumes nothing.
 use Prim.Native.Nat.{ℕ, suc}
 use mathlib.Core.Bool.{Bool, true, false, cond, _&&_, not}
 use mathlib.Core.List.{List, [], _∷_}

@@ -1,5 +1,6 @@
-// The messages under way: 96 slots, each empty or holding one message. Whether they are within their limits, what an event leaves of
-// the slot that it is about, and a turn of each of the two walks that count empty slots and place a message to a set of receivers.
+// The messages under way: 96 slots, each empty or holding one message. Whether they are within
+// their limits, what an event leaves of the slot that it is about, and a turn of each of the two
+// walks that count empty slots and place a message to a set of receivers.
 ghost use mathlib.Core.Path.{_≡_};
 ghost use Prim.Native.Nat.{_<_, _-_, _^_};
 ghost use Rattle.slots.specs.Slots.{isEmpty, contentOk, slotsOk, noMessages};
@@ -22,7 +23,8 @@ pub struct Slot {
     pub content: Content,
 }
 
-// What a turn of the walk that places leaves: what its slot holds, whose turn it is next, and which slot's.
+// What a turn of the walk that places leaves: what its slot holds, whose turn it is next, and which
+// slot's.
 pub struct Turn {
     pub slot: Slot,
     pub host: u8,
@@ -87,7 +89,8 @@ pub fn slot_after(frees: bool, held: Slot) -> Slot
     held
 }
 
-// By how many the empty slots grow by that, for 13: by one where a slot that held a message is freed.
+// By how many the empty slots grow by that, for 13: by one where a slot that held a message is
+// freed.
 pub fn gained_by(frees: bool, content: Content) -> usize
     ensures { λ r. ⌜ r ≡ gainedBy frees content ⌝ }
 {
@@ -112,7 +115,8 @@ pub fn counted_with(count: usize, held: Slot) -> usize
     count
 }
 
-// The walk that places, at host h and slot j: a host that is no receiver is passed over, and so is a slot that is taken.
+// The walk that places, at host h and slot j: a host that is no receiver is passed over, and so is
+// a slot that is taken.
 pub fn turn_of(m: Message, receivers: u16, h: u8, j: usize, held: Slot) -> Turn
     requires { ⌜ (h < 16) × (j < 96) ⌝ }
     ensures { λ r. ⌜ r ≡ turnOf m receivers h j held ⌝ }

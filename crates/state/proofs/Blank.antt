@@ -1,4 +1,5 @@
--- The test for the blank state tells that it is blank, and the blank state is within every limit. Assumes nothing.
+-- The test for the blank state tells that it is blank, and the blank state is within every limit.
+-- Assumes nothing.
 use mathlib.Core.Path.{_≡_, refl, sym}
 use mathlib.Core.Bool.{true}
 use mathlib.Core.List.{[], _∷_}

@@ -1,4 +1,5 @@
--- What the limits of settings and of a host's state tell, as orders of numbers, and the limits from that. Assumes nothing.
+-- What the limits of settings and of a host's state tell, as orders of numbers, and the limits from
+-- that. Assumes nothing.
 use mathlib.Core.Path.{_≡_}
 use mathlib.Core.Bool.{true}
 use Prim.Native.Nat.{ℕ, _+_, _≤_, _<_}

@@ -1,4 +1,5 @@
--- What a restart leaves of a host's state, 'everything but the clock is forgotten', and the test for it. Assumes nothing.
+-- What a restart leaves of a host's state, 'everything but the clock is forgotten', and the test
+-- for it. Assumes nothing.
 use mathlib.Core.Bool.{Bool, true, false}
 use mathlib.Core.List.{[], _∷_}
 use Rattle.base.specs.Lists.{allOf}

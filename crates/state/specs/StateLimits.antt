@@ -1,4 +1,5 @@
--- The limits of document 01 on the numbers of a host and of its settings: a value past one of them is refused by 1. Assumes nothing.
+-- The limits of document 01 on the numbers of a host and of its settings: a value past one of them
+-- is refused by 1. Assumes nothing.
 use Prim.Native.Nat.{ℕ, _+_, _^_}
 use mathlib.Core.Bool.{Bool, true}
 use mathlib.Core.List.{List, [], _∷_}
@@ -51,7 +52,8 @@ settingsOk s = allHold (settingsTests s)
 unfoldable pub durationOk : Settings → ℕ → Bool
 durationOk s d = leb (d + s .spread) (s .longest)
 
--- 'any number in it is above those given here .., a host number or set reaches n': of each part of a host
+-- 'any number in it is above those given here .., a host number or set reaches n': of each part of
+-- a host
 unfoldable pub ballotOk : ℕ → Ballot → Bool
 ballotOk n b = allOf (leb (b .tick) lastTick ∷ ltb (b .host) n ∷ [])
 

@@ -1,9 +1,12 @@
-// What a host keeps of one sheet, the settings of a cell, and whether their numbers are within document 01's limits (number 1); and
-// the blank state, in which nothing is kept.
+// What a host keeps of one sheet, the settings of a cell, and whether their numbers are within
+// document 01's limits (number 1); and the blank state, in which nothing is kept.
 ghost use mathlib.Core.Path.{_≡_};
 ghost use Rattle.state.specs.Ageing.{agedAt};
-ghost use Rattle.state.specs.Blank.{blankState, noPromise, noLease, noTick, noRound, noHolder, isBlankState};
-ghost use Rattle.state.specs.StateLimits.{sizesOf, settingsOk, ballotOk, leaseOk, acceptedOk, promisedOk, lastOk, namedOk, askingOk, proposingOk, roundOk, stateOk, durationOk};
+ghost use Rattle.state.specs.Blank.{blankState, noPromise, noLease, noTick, noRound};
+ghost use Rattle.state.specs.Blank.{noHolder, isBlankState};
+ghost use Rattle.state.specs.StateLimits.{sizesOf, settingsOk, ballotOk, leaseOk, acceptedOk};
+ghost use Rattle.state.specs.StateLimits.{promisedOk, lastOk, namedOk, askingOk, proposingOk};
+ghost use Rattle.state.specs.StateLimits.{roundOk, stateOk, durationOk};
 use message::Ballot;
 use message::KeepersEnd;
 use message::LAST_END;

@@ -1,5 +1,5 @@
--- The joint table holds, and so do the runs in which a holder is named and the orders of refusals: each entry is
--- what the definitions compute. Assumes nothing.
+-- The joint table holds, and so do the runs in which a holder is named and the orders of refusals:
+-- each entry is what the definitions compute. Assumes nothing.
 use mathlib.Core.Path.{refl}
 use lib.Count.{ones, onesIn}
 use Rattle.base.specs.Refusals.{firstOf}

@@ -1,7 +1,8 @@
--- The order of refusals, by computed answers. In each list an entry is refused by what its number says, and by
--- the number after it too; the next entry has the first of the two mended. So the answers are document 01's
--- order, and no two neighbours in it could be exchanged. (Two pairs can never apply together, and show only
--- that both are there: a place at n or above never waits, and an empty slot sends nothing.) Assumes nothing.
+-- The order of refusals, by computed answers. In each list an entry is refused by what its number
+-- says, and by the number after it too; the next entry has the first of the two mended. So the
+-- answers are document 01's order, and no two neighbours in it could be exchanged. (Two pairs can
+-- never apply together, and show only that both are there: a place at n or above never waits, and
+-- an empty slot sends nothing.) Assumes nothing.
 use Prim.Native.Nat.{ℕ, _+_, _^_}
 use mathlib.Core.Path.{_≡_}
 use mathlib.Core.Bool.{cond}
@@ -33,11 +34,12 @@ pastTick = 2 ^ 48 + 1
 
 -- ---- frames
 
--- a prepare request to host 2; with a tick past its limit, and of another host's ballot, if so said
+-- a prepare request to host 2
 abbrev pub request : ℕ → ℕ → ℕ → Message
 request sender tick host = PrepareRequest (headWith sender 2 (ballot tick host))
 
--- the bytes of one after its first two fields; `high` is the seventh byte of the tick, at 1 and 2^48 more
+-- the bytes of one after its first two fields; `high` is the tick's seventh byte, and 1 there is
+-- past the limit
 abbrev pub rest : ℕ → ℕ → ℕ → List ℕ
 rest sender high host = sender ∷ 2 ∷ 105 ∷ 0 ∷ 0 ∷ 0 ∷ 0 ∷ 0 ∷ high ∷ 0 ∷ host ∷ []
 
@@ -126,8 +128,8 @@ pub record RefusalOrders : Type 0 where
       ∷ [] ≡ 1 ∷ 3 ∷ 5 ∷ 6 ∷ 7 ∷ 8 ∷ []
   pub opening : openingOf wideSettings pastTick .answer ∷ openingOf settings pastTick .answer ∷ []
       ≡ 1 ∷ 6 ∷ []
-  pub advance-all : answerOf broken (AdvanceAll 0) ∷ answerOf example (AdvanceAll 0) ∷ [] ≡ 1 ∷ 15
-      ∷ []
+  pub advance-all : answerOf broken (AdvanceAll 0) ∷ answerOf example (AdvanceAll 0) ∷ []
+      ≡ 1 ∷ 15 ∷ []
   pub advance-one : answerOf broken (AdvanceOne 3 0)
       ∷ map (answerOf at104) (AdvanceOne 3 0 ∷ AdvanceOne 0 (2 ^ 48) ∷ AdvanceOne 0 6 ∷ [])
       ≡ 1 ∷ 5 ∷ 15 ∷ 14 ∷ []
@@ -135,11 +137,11 @@ pub record RefusalOrders : Type 0 where
       ∷ map (answerOf at104) (Start 3 0 ∷ Start 0 0 ∷ [])
       ++ map (answerOf full) (Start 0 0 ∷ Start 0 50 ∷ Start 1 50 ∷ [])
       ≡ 1 ∷ 5 ∷ 9 ∷ 11 ∷ 10 ∷ 13 ∷ []
-  pub deliver : answerOf broken (Deliver 96) ∷ map (answerOf full) (Deliver 96 ∷ Deliver 1 ∷ []) ≡ 1
-      ∷ 12 ∷ 13 ∷ []
+  pub deliver : answerOf broken (Deliver 96) ∷ map (answerOf full) (Deliver 96 ∷ Deliver 1 ∷ [])
+      ≡ 1 ∷ 12 ∷ 13 ∷ []
   pub lose : answerOf broken (Lose 96) ∷ answerOf full (Lose 96) ∷ [] ≡ 1 ∷ 12 ∷ []
-  pub repeat : answerOf broken (Repeat 96) ∷ map (answerOf full) (Repeat 96 ∷ Repeat 1 ∷ []) ≡ 1
-      ∷ 12 ∷ 13 ∷ []
+  pub repeat : answerOf broken (Repeat 96) ∷ map (answerOf full) (Repeat 96 ∷ Repeat 1 ∷ [])
+      ≡ 1 ∷ 12 ∷ 13 ∷ []
   pub restart : answerOf broken (Restart 3) ∷ answerOf example (Restart 3) ∷ [] ≡ 1 ∷ 5 ∷ []
   -- a host's own steps
   pub host-advance : advanceOf settings (stranger waiting) 0 .answer

@@ -1,4 +1,5 @@
--- The acts of the asking round keep the invariant: giving up, starting, hearing a reply. Assumes nothing.
+-- The acts of the asking round keep the invariant: giving up, starting, hearing a reply. Assumes
+-- nothing.
 use Prim.Native.Nat.{ℕ, _+_, _≤_}
 use native.Mathlib.Omega.{arith}
 use native.Mathlib.Nat.{le-refl}

@@ -1,4 +1,5 @@
--- The acts of a keeper keep the invariant: restarting, promising, accepting, naming a holder. Assumes nothing.
+-- The acts of a keeper keep the invariant: restarting, promising, accepting, naming a holder.
+-- Assumes nothing.
 use Prim.Native.Nat.{ℕ, _+_, _≤_, _<_}
 use native.Mathlib.Omega.{arith}
 use native.Mathlib.Nat.{le-refl}

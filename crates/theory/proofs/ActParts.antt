@@ -1,4 +1,5 @@
--- What the acts' proofs share: facts of one world, and acts that leave most of a host as it was. Assumes nothing.
+-- What the acts' proofs share: facts of one world, and acts that leave most of a host as it was.
+-- Assumes nothing.
 use Prim.Native.Nat.{ℕ, _+_, _≤_, _<_}
 use native.Mathlib.Omega.{arith}
 use native.Mathlib.Nat.{le-refl}
@@ -23,7 +24,8 @@ module _ {𝒞 : Setup} where
   pub come-dead : {s : World 𝒞} → Invariant s → (x e : ℕ) → e ≤ s .clock x → Dead s e
   come-dead I x e l y = omega (arith, I .near x y)
 
-  -- a proposal with a live one's ballot, or a higher one, is for the same owner, and ends no earlier
+  -- a proposal with a live one's ballot, or a higher one, is for the same owner, and ends no
+  -- earlier
   pub under : {s : World 𝒞} → Invariant s → (b o e : ℕ) (a : Lease) → Proposed s b o e
       → Proposed s (a .ballot) (a .owner) (a .end) → b ≤ a .ballot →
       Live s b o e → (o ≡ a .owner) × (e ≤ a .end)

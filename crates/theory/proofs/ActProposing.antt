@@ -1,4 +1,5 @@
--- The acts of the proposing round keep the invariant: proposing, counting a vote, telling of the holder. Assumes nothing.
+-- The acts of the proposing round keep the invariant: proposing, counting a vote, telling of the
+-- holder. Assumes nothing.
 use Prim.Native.Nat.{ℕ, _+_, _≤_, _<_}
 use native.Mathlib.Omega.{arith}
 use native.Mathlib.Nat.{le-refl}

@@ -1,4 +1,5 @@
--- Agreement: in every world that is reached from an opened one, two hosts that name a holder name the same owner. Assumes nothing.
+-- Agreement: in every world that is reached from an opened one, two hosts that name a holder name
+-- the same owner. Assumes nothing.
 use Prim.Native.Nat.{ℕ, _+_, _≤_, _<_}
 use native.Mathlib.Omega.{arith}
 use mathlib.Core.Path.{_≡_, sym}
@@ -76,7 +77,8 @@ module _ {𝒞 : Setup} where
   inv-reach I here = I
   inv-reach I (then r a) = inv-step (inv-reach I r) a
 
-  -- demand 3, of the model: whatever happens after opening, two hosts that name a holder name the same owner
+  -- demand 3, of the model: whatever happens after opening, two hosts that name a holder name the
+  -- same owner
   pub agreement : (c : ℕ) {s : World 𝒞} → Reach (opened c) s → (x y : ℕ) (m n : Holder)
       → s .host x .named ≡ some m → s .host y .named ≡ some n →
       m .owner ≡ n .owner

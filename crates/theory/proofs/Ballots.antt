@@ -1,4 +1,5 @@
--- Laws of what the theory says with numbers: a changed function, cases on orders, a list with one more. Assumes nothing.
+-- Laws of what the theory says with numbers: a changed function, cases on orders, a list with one
+-- more. Assumes nothing.
 use Prim.Native.Nat.{ℕ, _≤_, _<_}
 use native.Mathlib.Omega.{arith}
 use native.Mathlib.Decide.{ℕ-discrete, decLe}
@@ -8,7 +9,8 @@ use mathlib.Core.Option.{Option, none, some}
 use mathlib.Core.List.{List, List·Memᴰ, List·Memᴰ·head, List·Memᴰ·tail, List·Memᴰ·cases-cons}
 use Rattle.theory.specs.Ballots.{pick, changed, with-one}
 
--- what a property of the changed function asks: of the new value at the place, of the old ones elsewhere
+-- what a property of the changed function asks: of the new value at the place, of the old ones
+-- elsewhere
 pub changed-all {ℓ} : {A : Type ℓ} (P : ℕ → A → Type 0) (f : ℕ → A) (h : ℕ) (v : A) → P h v
     → ((x : ℕ) → x ≢ h → P x (f x)) →
     (x : ℕ) → P x (changed f h v x)

@@ -1,5 +1,5 @@
--- What every step keeps: `Later s s'` is what all steps have in common, and it carries each fact of the invariant from s to s'.
--- Assumes nothing.
+-- What every step keeps: `Later s s'` is what all steps have in common, and it carries each fact of
+-- the invariant from s to s'. Assumes nothing.
 use Prim.Native.Nat.{ℕ, _+_, _≤_, _<_}
 use native.Mathlib.Omega.{arith}
 use mathlib.Core.Path.{_≡_}
@@ -26,7 +26,8 @@ module _ {𝒞 : Setup} where
     pub proposed : Proposed s b owner end
     pub ahead : s .clock x < end
 
-  -- as a host v becomes w, it remembers its promise and its last ballot, or it has restarted at the clock c
+  -- as a host v becomes w, it remembers its promise and its last ballot, or it has restarted at the
+  -- clock c
   abbrev pub Remembers : ℕ → Host 𝒞 → Host 𝒞 → Type 0
   Remembers c v w = ((v .promised ≤ w .promised) × (v .last ≤ w .last)) ⊎ (c + T + S ≤ w .wait)
 

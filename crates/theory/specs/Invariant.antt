@@ -1,10 +1,11 @@
--- The facts that the proof of agreement speaks of, and the invariant. The theorem does not rest on them for what it says: they are what its
--- proof carries from step to step.
+-- The facts that the proof of agreement speaks of, and the invariant. The theorem does not rest on
+-- them for what it says: they are what its proof carries from step to step.
 --
--- A disjunction is written as an implication where that is enough: `Joined s x b` says that x has promised b or higher, or waits until
--- tick b + T, as "if the promise is below b, then ..". That a proposal is lost (dead or blocked) is never a disjunct: each claim says
--- "while the proposal is live". What is claimed is then decidable, and nothing here needs excluded middle.
--- Assumes nothing.
+-- A disjunction is written as an implication where that is enough: `Joined s x b` says that x has
+-- promised b or higher, or waits until tick b + T, as "if the promise is below b, then ..". That a
+-- proposal is lost (dead or blocked) is never a disjunct: each claim says "while the proposal is
+-- live". What is claimed is then decidable, and nothing here needs excluded middle. Assumes
+-- nothing.
 use Prim.Native.Nat.{ℕ, _+_, _≤_, _<_}
 use mathlib.Core.Path.{_≡_}
 use mathlib.Core.Option.{Option, some}
@@ -16,7 +17,8 @@ use Rattle.theory.specs.Model.{proposing, Host, World, Sent}
 module _ {𝒞 : Setup} where
   open Setup 𝒞 using (longest as T, spread as S, Hosts, In, Majority)
 
-  -- ---- facts of a world; every step keeps them, but that a live proposal may come to be dead or blocked
+  -- ---- facts of a world; every step keeps them, but that a live proposal may come to be dead or
+  -- blocked
 
   abbrev pub Voted : World 𝒞 → ℕ → ℕ → Type 0
   Voted s x b = Sent s (proposeResponse x b)
@@ -24,7 +26,8 @@ module _ {𝒞 : Setup} where
   abbrev pub Proposed : World 𝒞 → ℕ → ℕ → ℕ → Type 0
   Proposed s b o e = Sent s (proposeRequest b o e)
 
-  -- x votes for nothing below b: it has promised b or higher, or it waits past the end of every lease with a ballot up to b
+  -- x votes for nothing below b: it has promised b or higher, or it waits past the end of every
+  -- lease with a ballot up to b
   abbrev pub Joined : World 𝒞 → ℕ → ℕ → Type 0
   Joined s x b = s .host x .promised ≤ b → tick b + T ≤ s .host x .wait
 

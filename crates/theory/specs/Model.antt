@@ -1,10 +1,12 @@
--- The model of a cell: its setup, its hosts and messages, and the small steps that it takes. An event of a real cell is a few of them.
+-- The model of a cell: its setup, its hosts and messages, and the small steps that it takes. An
+-- event of a real cell is a few of them.
 --
--- A setup is a parameter, so that a theorem holds for every kind of set and of majority: all that the theory asks of majorities is that
--- any two have a member in common. Every number is a host here; a cell of n hosts is one whose other hosts never do anything.
--- `sent` is every message ever sent. To lose, repeat or replace a message is no step, and a message may be delivered at any time, to any
--- host, any number of times. So a message has no target, and what goes to many hosts is one message.
--- Assumes nothing.
+-- A setup is a parameter, so that a theorem holds for every kind of set and of majority: all that
+-- the theory asks of majorities is that any two have a member in common. Every number is a host
+-- here; a cell of n hosts is one whose other hosts never do anything. `sent` is every message ever
+-- sent. To lose, repeat or replace a message is no step, and a message may be delivered at any
+-- time, to any host, any number of times. So a message has no target, and what goes to many hosts
+-- is one message. Assumes nothing.
 use Prim.Native.Nat.{ℕ, _+_, _≤_, _<_}
 use mathlib.Core.Path.{_≡_}
 use mathlib.Core.Logic.{_⊎_}
@@ -39,7 +41,8 @@ pub data Round (𝒞 : Setup) : Type 0 where
       → Round 𝒞  -- ballot, duration, who replied, highest lease of the replies
   proposing : ℕ → ℕ → ℕ → 𝒞 .Hosts → Round 𝒞  -- ballot, owner, keepers' end, who replied
 
--- `promised` is one more than the promised ballot, and `last` one more than the last ballot's tick; 0 is none
+-- `promised` is one more than the promised ballot, and `last` one more than the last ballot's tick;
+-- 0 is none
 pub record Host (𝒞 : Setup) : Type 0 where
   pub wait : ℕ
   pub promised : ℕ
@@ -59,7 +62,8 @@ pub record World (𝒞 : Setup) : Type 0 where
 abbrev pub Expired : Lease → ℕ → Type 0
 Expired a now = a .end ≤ now
 
--- what is left of an accepted lease A when the clock is c: all of it, or nothing if its end has come
+-- what is left of an accepted lease A when the clock is c: all of it, or nothing if its end has
+-- come
 abbrev pub AgedLease : ℕ → Option Lease → Option Lease → Type 0
 AgedLease c A A' = (A' ≡ A) ⊎ ((A' ≡ none) × (a : Lease) × (A ≡ some a) × Expired a c)
 
@@ -166,8 +170,8 @@ module _ {𝒞 : Setup} where
 
   -- ---- steps
 
-  -- What the host h may do, when its clock is c, it is v, and l are the messages ever sent: the host that it becomes, and the message
-  -- that it sends.
+  -- What the host h may do, when its clock is c, it is v, and l are the messages ever sent: the
+  -- host that it becomes, and the message that it sends.
   pub data Act (c : ℕ) (v : Host 𝒞) (l : List Message) (h : ℕ) : Host 𝒞 → Option Message
       → Type 0 where
     restart : Act c v l h (restarted c) none
@@ -209,8 +213,9 @@ module _ {𝒞 : Setup} where
   put s h v m =
       record { clock = s .clock; host = changed (s .host) h v; sent = with-one m (s .sent) }
 
-  -- What becomes of a host v as its clock goes from c to c': an accepted lease may be dropped if its end has come; a named holder may
-  -- be dropped, and is dropped if its end has come, unless the clock stood still.
+  -- What becomes of a host v as its clock goes from c to c': an accepted lease may be dropped if
+  -- its end has come; a named holder may be dropped, and is dropped if its end has come, unless the
+  -- clock stood still.
   pub record Aged (c c' : ℕ) (v w : Host 𝒞) : Type 0 where
     pub same-wait : w .wait ≡ v .wait
     pub same-promised : w .promised ≡ v .promised

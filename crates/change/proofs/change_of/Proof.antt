@@ -27,10 +27,26 @@ change-of-spec =
     (λ c. search needs)
     (λ c κs. search needs)
     (λ c κs. search needs)
-    (λ c. rw (c .change-by .ensures, c .before .quiet-with .ensures, c .before .before .enum-told .given .1))
-    (λ c. rw (c .change-by2 .ensures, c .before .advance .ensures, c .before .before .before .e .given .1))
-    (λ c. rw (c .change-by3 .ensures, c .before .start .ensures, c .before .before .before .e2 .given .1))
+    (λ c.
+    rw (
+      c .change-by .ensures,
+      c .before .quiet-with .ensures,
+      c .before .before .enum-told .given .1,
+    ))
+    (λ c.
+    rw (
+      c .change-by2 .ensures,
+      c .before .advance .ensures,
+      c .before .before .before .e .given .1,
+    ))
+    (λ c.
+    rw (c .change-by3 .ensures, c .before .start .ensures, c .before .before .before .e2 .given .1))
     (λ c. rw (c .deliver-change .ensures, c .before .enum-told2 .given .1))
     (λ c. rw (c .lose-change .ensures, c .before .enum-told3 .given .1))
     (λ c. rw (c .repeat-change .ensures, c .before .enum-told4 .given .1))
-    (λ c. rw (c .change-by4 .ensures, c .before .restart .ensures, c .before .before .enum-told5 .given .1)))
+    (λ c.
+    rw (
+      c .change-by4 .ensures,
+      c .before .restart .ensures,
+      c .before .before .enum-told5 .given .1,
+    )))

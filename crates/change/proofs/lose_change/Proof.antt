@@ -15,5 +15,15 @@ lose-change-spec =
     (λ c. search needs)
     (λ c κs. search needs)
     (λ c κs. search needs)
-    (λ c. rw (c .change-by .ensures, c .before .refused-with .ensures, c .before .before .enum-told .given .1))
-    (λ c. rw (c .change-by2 .ensures, c .before .quiet-with .ensures, c .before .before .enum-told2 .given .1)))
+    (λ c.
+    rw (
+      c .change-by .ensures,
+      c .before .refused-with .ensures,
+      c .before .before .enum-told .given .1,
+    ))
+    (λ c.
+    rw (
+      c .change-by2 .ensures,
+      c .before .quiet-with .ensures,
+      c .before .before .enum-told2 .given .1,
+    )))

@@ -15,8 +15,22 @@ repeat-change-spec =
     (λ c κs. search needs)
     (λ c. search needs)
     (λ c κs. search needs)
-    (λ c κs. rw (c .target-of .ensures) (rw (c .before .before .content .given .1) at (c .before .before .before .before .pre)))
+    (λ c κs.
+    rw (c .target-of .ensures)
+    (rw (c .before .before .content .given .1) at (c .before .before .before .before .pre)))
     (λ c κs. search needs)
     (λ c κs. search needs)
-    (λ c. rw (c .change-by .ensures, c .before .refused-with .ensures, c .before .before .enum-told .given .1))
-    (λ c. rw (c .change-by2 .ensures, c .before .sending-with .ensures, c .before .before .single-of .ensures, c .before .before .before .target-of .ensures, c .before .before .before .before .before .content .given .1)))
+    (λ c.
+    rw (
+      c .change-by .ensures,
+      c .before .refused-with .ensures,
+      c .before .before .enum-told .given .1,
+    ))
+    (λ c.
+    rw (
+      c .change-by2 .ensures,
+      c .before .sending-with .ensures,
+      c .before .before .single-of .ensures,
+      c .before .before .before .target-of .ensures,
+      c .before .before .before .before .before .content .given .1,
+    )))

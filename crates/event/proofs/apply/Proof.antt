@@ -11,6 +11,11 @@ apply-spec =
     tie.close
     (tie.spec
     (λ c κs. search needs)
-    (λ c. past-limits _ _ (sym (c .before .within-limits .ensures) ∙ not-true (c .before .within-limits .result) (c .if1 .taken)))
-    (λ c κs. sym (c .before .within-limits .ensures) ∙ not-false (c .before .within-limits .result) (c .if1 .left))
+    (λ c.
+    past-limits _ _
+    (sym (c .before .within-limits .ensures)
+    ∙ not-true (c .before .within-limits .result) (c .if1 .taken)))
+    (λ c κs.
+    sym (c .before .within-limits .ensures)
+    ∙ not-false (c .before .within-limits .result) (c .if1 .left))
     (λ c. c .apply-within .ensures))

@@ -12,7 +12,25 @@ answer-of-spec =
     tie.close
     (tie.spec
     (λ c κs. search needs)
-    (λ c. rw (← c .before .sizes-fit .ensures, not-true (c .before .sizes-fit .result) (c .if1 .taken)))
-    (λ c. rw (← c .before .before .sizes-fit .ensures, not-false (c .before .before .sizes-fit .result) (c .before .if1 .left), ne-eqb _ _ (c .if2 .taken)))
-    (λ c. rw (← c .before .before .before .sizes-fit .ensures, not-false (c .before .before .before .sizes-fit .result) (c .before .before .if1 .left), eq-eqb _ _ (c .before .if2 .left), le-leb _ _ (c .if3 .taken)))
-    (λ c. rw (← c .before .before .before .sizes-fit .ensures, not-false (c .before .before .before .sizes-fit .result) (c .before .before .if1 .left), eq-eqb _ _ (c .before .if2 .left), lt-leb _ _ (c .if3 .left))))
+    (λ c.
+    rw (← c .before .sizes-fit .ensures, not-true (c .before .sizes-fit .result) (c .if1 .taken)))
+    (λ c.
+    rw (
+      ← c .before .before .sizes-fit .ensures,
+      not-false (c .before .before .sizes-fit .result) (c .before .if1 .left),
+      ne-eqb _ _ (c .if2 .taken),
+    ))
+    (λ c.
+    rw (
+      ← c .before .before .before .sizes-fit .ensures,
+      not-false (c .before .before .before .sizes-fit .result) (c .before .before .if1 .left),
+      eq-eqb _ _ (c .before .if2 .left),
+      le-leb _ _ (c .if3 .taken),
+    ))
+    (λ c.
+    rw (
+      ← c .before .before .before .sizes-fit .ensures,
+      not-false (c .before .before .before .sizes-fit .result) (c .before .before .if1 .left),
+      eq-eqb _ _ (c .before .if2 .left),
+      lt-leb _ _ (c .if3 .left),
+    )))

@@ -18,7 +18,8 @@ room c =
     let a = c .before .before .args in
     let p = c .before .before .pre in
     let z : length (bytesOf (a .f)) ≡ a .len = bytes-length (a .f) ∙ sym (p .long) in
-    let h : a .at + length (bytesOf (a .f)) ≤ length (a .out .now) = rw (c .if1 .taken) at (p .room) in
+    let h : a .at + length (bytesOf (a .f)) ≤ length (a .out .now) =
+    rw (c .if1 .taken) at (p .room) in
     (z, omega arith)
 
 pub put-if-spec : {M : Type 1} → statement M
@@ -26,7 +27,18 @@ put-if-spec =
     tie.close
     (tie.spec
     (λ c κs. record { long = c .before .before .before .pre .long; room = room (c .before) .1 })
-    (λ c. omega (arith, room (c .before .before .before .before) .1, c .before .before .before .before .before .before .good))
+    (λ c.
+    omega (
+      arith,
+      room (c .before .before .before .before) .1,
+      c .before .before .before .before .before .before .good,
+    ))
     (λ c. search needs)
-    (λ c. (rw (c .before .before .before .before .if1 .taken, room (c .before .before .before .before) .0), rw (c .before .before .before .before .if1 .taken) (c .before .before .put-numbers .ensures)))
+    (λ c. (
+      rw (
+        c .before .before .before .before .if1 .taken,
+        room (c .before .before .before .before) .0,
+      ),
+      rw (c .before .before .before .before .if1 .taken) (c .before .before .put-numbers .ensures),
+    ))
     (λ c. (rw (c .if1 .left) (omega arith), rw (c .if1 .left))))

@@ -10,5 +10,10 @@ read-numbers-spec =
     (tie.spec
     (λ c κs. search needs)
     (λ c κs. search needs)
-    (λ c. rw (c .message-of .ensures, ← c .before .before .fault .ensures, eq-eqb _ _ (c .before .if1 .taken)))
+    (λ c.
+    rw (
+      c .message-of .ensures,
+      ← c .before .before .fault .ensures,
+      eq-eqb _ _ (c .before .if1 .taken),
+    ))
     (λ c. rw (← c .before .fault .ensures, ne-eqb _ _ (c .if1 .left))))

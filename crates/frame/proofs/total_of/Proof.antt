@@ -14,6 +14,7 @@ total-of-spec =
     (λ c κs. search needs)
     (λ c. omega (arith, ones-le 16 (c .before .args .set) (search needs)))
     (λ c.
-    let k : c .size-of .result ≤ 16 = omega (arith, ones-le 16 (c .before .args .set) (search needs)) in
+    let k : c .size-of .result ≤ 16 =
+    omega (arith, ones-le 16 (c .before .args .set) (search needs)) in
     omega (arith, mul-le-mul k (c .before .pre)))
     (λ c. rw (c .size-of .ensures)))

@@ -12,6 +12,16 @@ handed-numbers-spec =
     (tie.spec
     (λ c κs. search needs)
     (λ c κs. search needs)
-    (λ c. rw (c .numbers-with .ensures, c .before .before .head-with .ensures, eq-eqb _ _ (c .before .if1 .taken)))
+    (λ c.
+    rw (
+      c .numbers-with .ensures,
+      c .before .before .head-with .ensures,
+      eq-eqb _ _ (c .before .if1 .taken),
+    ))
     (λ c κs. search needs)
-    (λ c. rw (c .numbers-with2 .ensures, c .before .before .head-with .ensures, ne-eqb _ _ (c .before .if1 .left))))
+    (λ c.
+    rw (
+      c .numbers-with2 .ensures,
+      c .before .before .head-with .ensures,
+      ne-eqb _ _ (c .before .if1 .left),
+    )))

@@ -12,7 +12,20 @@ kind-answer-spec =
     tie.close
     (tie.spec
     (λ c κs. search needs)
-    (λ c. rw (← c .before .sizes-fit .ensures, not-true (c .before .sizes-fit .result) (c .if1 .taken)))
+    (λ c.
+    rw (← c .before .sizes-fit .ensures, not-true (c .before .sizes-fit .result) (c .if1 .taken)))
     (λ c κs. search needs)
-    (λ c. rw (← c .before .before .before .sizes-fit .ensures, not-false (c .before .before .before .sizes-fit .result) (c .before .before .if1 .left), ← c .before .known-kind .ensures, not-true (c .before .known-kind .result) (c .if2 .taken)))
-    (λ c. rw (← c .before .before .before .sizes-fit .ensures, not-false (c .before .before .before .sizes-fit .result) (c .before .before .if1 .left), ← c .before .known-kind .ensures, not-false (c .before .known-kind .result) (c .if2 .left))))
+    (λ c.
+    rw (
+      ← c .before .before .before .sizes-fit .ensures,
+      not-false (c .before .before .before .sizes-fit .result) (c .before .before .if1 .left),
+      ← c .before .known-kind .ensures,
+      not-true (c .before .known-kind .result) (c .if2 .taken),
+    ))
+    (λ c.
+    rw (
+      ← c .before .before .before .sizes-fit .ensures,
+      not-false (c .before .before .before .sizes-fit .result) (c .before .before .if1 .left),
+      ← c .before .known-kind .ensures,
+      not-false (c .before .known-kind .result) (c .if2 .left),
+    )))

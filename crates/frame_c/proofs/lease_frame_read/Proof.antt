@@ -21,8 +21,21 @@ lease-frame-read-spec =
     (λ c κs. search needs)
     (λ c. search needs)
     (λ c.
-    let h = told (c .before .before .before .before .before .before .before .before .before .before .before .before .read .ensures) (c .before .before .before .before .before .before .before .before .before .before .m .given .1) in
-    (rw h, (rw (h, c .before .end-of .ensures, c .before .before .before .before .before .before .before .before .numbers-of .ensures), rw h)))
+    let h =
+    told (c .before .before .before .before .before .before .before .before .before .before .before
+    .before .read .ensures)
+    (c .before .before .before .before .before .before .before .before .before .before .m .given
+    .1) in (
+      rw h,
+      (
+        rw (
+          h,
+          c .before .end-of .ensures,
+          c .before .before .before .before .before .before .before .before .numbers-of .ensures,
+        ),
+        rw h,
+      ),
+    ))
     (λ c.
     let h = told (c .before .before .before .read .ensures) (c .before .k .given .1) in
     (rw h, (rw h, rw h))))

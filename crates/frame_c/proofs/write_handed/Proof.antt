@@ -18,7 +18,8 @@ write-handed-spec =
     (λ c.
     let a = c .before .before .before .args in
     let e = ne-eqb _ _ (c .if1 .taken) in
-    let d : handedAnswer (a .z) (a .f) (length (a .out .now)) ≡ c .before .kind-answer .result = rw (kind-found (a .z) (a .f .kind) _ _ _, ← c .before .kind-answer .ensures, e) in
+    let d : handedAnswer (a .z) (a .f) (length (a .out .now)) ≡ c .before .kind-answer .result =
+    rw (kind-found (a .z) (a .f .kind) _ _ _, ← c .before .kind-answer .ensures, e) in
     (rw (d, e), rw (d, e)))
     (λ c κs. search needs)
     (λ c κs. search needs)
@@ -27,6 +28,16 @@ write-handed-spec =
     let a = c .before .before .before .before .before .before .before .before .args in
     let e = eq-eqb _ _ (c .before .before .before .before .before .if1 .left) in
     let w = c .before .before .write .ensures in (
-      rw (kind-found (a .z) (a .f .kind) _ _ _, ← c .before .before .before .before .before .before .kind-answer .ensures, e, ← c .before .before .before .before .message-of .ensures) (w .0),
-      rw (kind-found (a .z) (a .f .kind) _ _ _, ← c .before .before .before .before .before .before .kind-answer .ensures, e, ← c .before .before .before .before .message-of .ensures) (w .1),
+      rw (
+        kind-found (a .z) (a .f .kind) _ _ _,
+        ← c .before .before .before .before .before .before .kind-answer .ensures,
+        e,
+        ← c .before .before .before .before .message-of .ensures,
+      ) (w .0),
+      rw (
+        kind-found (a .z) (a .f .kind) _ _ _,
+        ← c .before .before .before .before .before .before .kind-answer .ensures,
+        e,
+        ← c .before .before .before .before .message-of .ensures,
+      ) (w .1),
     )))

@@ -18,7 +18,9 @@ write-handed-to-spec =
     (λ c.
     let a = c .before .before .before .args in
     let e = ne-eqb _ _ (c .if1 .taken) in
-    let d : handedAnswerTo (a .z) (a .f) (a .set) (length (a .out .now)) ≡ c .before .kind-answer .result = rw (kind-found (a .z) (a .f .kind) _ _ _, ← c .before .kind-answer .ensures, e) in
+    let d : handedAnswerTo (a .z) (a .f) (a .set) (length (a .out .now))
+    ≡ c .before .kind-answer .result =
+    rw (kind-found (a .z) (a .f .kind) _ _ _, ← c .before .kind-answer .ensures, e) in
     (rw (d, e), rw (d, e)))
     (λ c κs. search needs)
     (λ c κs. search needs)
@@ -27,6 +29,16 @@ write-handed-to-spec =
     let a = c .before .before .before .before .before .before .before .before .args in
     let e = eq-eqb _ _ (c .before .before .before .before .before .if1 .left) in
     let w = c .before .before .write-to .ensures in (
-      rw (kind-found (a .z) (a .f .kind) _ _ _, ← c .before .before .before .before .before .before .kind-answer .ensures, e, ← c .before .before .before .before .message-of .ensures) (w .0),
-      rw (kind-found (a .z) (a .f .kind) _ _ _, ← c .before .before .before .before .before .before .kind-answer .ensures, e, ← c .before .before .before .before .message-of .ensures) (w .1),
+      rw (
+        kind-found (a .z) (a .f .kind) _ _ _,
+        ← c .before .before .before .before .before .before .kind-answer .ensures,
+        e,
+        ← c .before .before .before .before .message-of .ensures,
+      ) (w .0),
+      rw (
+        kind-found (a .z) (a .f .kind) _ _ _,
+        ← c .before .before .before .before .before .before .kind-answer .ensures,
+        e,
+        ← c .before .before .before .before .message-of .ensures,
+      ) (w .1),
     )))

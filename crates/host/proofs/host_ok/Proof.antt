@@ -11,4 +11,5 @@ unfolding hostOk lastWait lastTick allOf
 host-ok-spec =
     tie.close
     (tie.spec (λ c κs. search needs) (λ c κs. search needs)
-    (λ c. rw (c .state-ok .ensures, c .before .before .before .before .before .settings-ok .ensures)))
+    (λ c.
+    rw (c .state-ok .ensures, c .before .before .before .before .before .settings-ok .ensures)))

@@ -14,4 +14,11 @@ head-at-spec =
     (λ c κs. search needs)
     (λ c κs. search needs)
     (λ c κs. search needs)
-    (λ c. rw (c .head-with .ensures, c .before .byte3 .ensures, c .before .before .get .ensures .0, c .before .before .before .byte2 .ensures, c .before .before .before .before .byte .ensures)))
+    (λ c.
+    rw (
+      c .head-with .ensures,
+      c .before .byte3 .ensures,
+      c .before .before .get .ensures .0,
+      c .before .before .before .byte2 .ensures,
+      c .before .before .before .before .byte .ensures,
+    )))

@@ -14,4 +14,10 @@ lease-at-spec =
     (λ c κs. search needs)
     (λ c κs. search needs)
     (λ c κs. search needs)
-    (λ c. rw (c .get2 .ensures .0, c .before .byte2 .ensures, c .before .before .byte .ensures, c .before .before .before .get .ensures .0)))
+    (λ c.
+    rw (
+      c .get2 .ensures .0,
+      c .before .byte2 .ensures,
+      c .before .before .byte .ensures,
+      c .before .before .before .get .ensures .0,
+    )))

@@ -17,8 +17,23 @@ put-first-spec =
     (λ c κs. search needs)
     (λ c. search needs)
     (λ c.
-    let p = c .before .before .before .before .before .before .before .before .before .before .before .pre .long in
-    rw (c .before .before .before .put-ballot .ensures, c .before .before .before .before .before .before .before .put-route .ensures, p, no-more _ (sym p ∙ c .if1 .taken)))
+    let p =
+    c .before .before .before .before .before .before .before .before .before .before .before .pre
+    .long in
+    rw (
+      c .before .before .before .put-ballot .ensures,
+      c .before .before .before .before .before .before .before .put-route .ensures,
+      p,
+      no-more _ (sym p ∙ c .if1 .taken),
+    ))
     (λ c κs. search needs)
     (λ c. search needs)
-    (λ c. rw (c .before .before .put-more .ensures, c .before .before .before .before .before .before .before .put-ballot .ensures, c .before .before .before .before .before .before .before .before .before .before .before .put-route .ensures, c .before .before .before .before .before .before .before .before .before .before .before .before .before .before .before .pre .long)))
+    (λ c.
+    rw (
+      c .before .before .put-more .ensures,
+      c .before .before .before .before .before .before .before .put-ballot .ensures,
+      c .before .before .before .before .before .before .before .before .before .before .before
+          .put-route .ensures,
+      c .before .before .before .before .before .before .before .before .before .before .before
+          .before .before .before .before .pre .long,
+    )))

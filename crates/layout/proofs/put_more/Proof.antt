@@ -12,14 +12,34 @@ unfolding kindLength moreOf total le packed
 put-more-spec =
     tie.close
     (tie.spec
-    (λ c κs. let h = rw (c .before .before .if1 .taken) at (c .before .before .before .before .pre) in omega arith)
-    (λ c κs. let h = rw (c .before .before .before .before .before .before .if1 .taken) at (c .before .before .before .before .before .before .before .before .pre) in omega arith)
+    (λ c κs.
+    let h = rw (c .before .before .if1 .taken) at (c .before .before .before .before .pre) in
+    omega arith)
+    (λ c κs.
+    let h =
+    rw (c .before .before .before .before .before .before .if1 .taken) at
+    (c .before .before .before .before .before .before .before .before .pre) in omega arith)
     (λ c. search needs)
-    (λ c. rw (c .before .before .put-value .ensures, c .before .before .before .before .before .before .put-ballot .ensures, c .before .before .before .before .before .before .before .before .before .if1 .taken))
-    (λ c κs. let h = rw (c .before .if2 .taken) at (c .before .before .before .before .pre) in omega arith)
+    (λ c.
+    rw (
+      c .before .before .put-value .ensures,
+      c .before .before .before .before .before .before .put-ballot .ensures,
+      c .before .before .before .before .before .before .before .before .before .if1 .taken,
+    ))
+    (λ c κs. let h = rw (c .before .if2 .taken) at (c .before .before .before .before .pre) in
+    omega arith)
     (λ c. search needs)
-    (λ c. rw (c .before .before .put-value2 .ensures, c .before .before .before .before .if2 .taken))
-    (λ c κs. let h = rw (c .before .if3 .taken) at (c .before .before .before .before .before .pre) in omega arith)
+    (λ c.
+    rw (c .before .before .put-value2 .ensures, c .before .before .before .before .if2 .taken))
+    (λ c κs.
+    let h = rw (c .before .if3 .taken) at (c .before .before .before .before .before .pre) in
+    omega arith)
     (λ c. search needs)
-    (λ c. rw (c .before .before .put-value3 .ensures, c .before .before .before .before .if3 .taken))
-    (λ c. rw (ne-eqb _ _ (c .before .before .if1 .left), ne-eqb _ _ (c .before .if2 .left), ne-eqb _ _ (c .if3 .left))))
+    (λ c.
+    rw (c .before .before .put-value3 .ensures, c .before .before .before .before .if3 .taken))
+    (λ c.
+    rw (
+      ne-eqb _ _ (c .before .before .if1 .left),
+      ne-eqb _ _ (c .before .if2 .left),
+      ne-eqb _ _ (c .if3 .left),
+    )))

@@ -21,5 +21,7 @@ put-numbers-spec =
     (λ c.
     let a = c .before .before .before .before .before .args in
     let p = c .before .before .before .before .before .pre in
-    let k : a .at + length (bytesOf (a .f)) ≤ length (a .out .now) = omega (arith, bytes-length (a .f)) in
-    rw (c .before .before .put-first .ensures) (sets-part (a .out .now) (a .at) (bytesOf (a .f)) k)))
+    let k : a .at + length (bytesOf (a .f)) ≤ length (a .out .now) =
+    omega (arith, bytes-length (a .f)) in
+    rw (c .before .before .put-first .ensures)
+    (sets-part (a .out .now) (a .at) (bytesOf (a .f)) k)))

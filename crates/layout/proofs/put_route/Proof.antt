@@ -14,4 +14,12 @@ put-route-spec =
     (λ c κs. search needs)
     (λ c κs. search needs)
     (λ c. search needs)
-    (λ c. rw (c .before .before .put4 .ensures, c .before .before .before .before .before .before .put3 .ensures, c .before .before .before .before .before .before .before .before .before .before .put2 .ensures, c .before .before .before .before .before .before .before .before .before .before .before .before .before .before .put .ensures)))
+    (λ c.
+    rw (
+      c .before .before .put4 .ensures,
+      c .before .before .before .before .before .before .put3 .ensures,
+      c .before .before .before .before .before .before .before .before .before .before .put2
+          .ensures,
+      c .before .before .before .before .before .before .before .before .before .before .before
+          .before .before .before .put .ensures,
+    )))

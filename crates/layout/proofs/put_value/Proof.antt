@@ -12,4 +12,8 @@ put-value-spec =
     (λ c. search needs)
     (λ c κs. search needs)
     (λ c. search needs)
-    (λ c. rw (c .before .before .put2 .ensures, c .before .before .before .before .before .before .put .ensures) (sets-two _ _ _ _ _ _)))
+    (λ c.
+    rw (
+      c .before .before .put2 .ensures,
+      c .before .before .before .before .before .before .put .ensures,
+    ) (sets-two _ _ _ _ _ _)))

@@ -12,4 +12,9 @@ addressed-to-spec =
     (λ c κs. search needs)
     (λ c κs. search needs)
     (λ c κs. search needs)
-    (λ c. rw (c .message-of .ensures, c .before .with-target .ensures, c .before .before .numbers-of .ensures)))
+    (λ c.
+    rw (
+      c .message-of .ensures,
+      c .before .with-target .ensures,
+      c .before .before .numbers-of .ensures,
+    )))

@@ -12,4 +12,9 @@ fault-to-spec =
     (λ c κs. search needs)
     (λ c κs. search needs)
     (λ c κs. search needs)
-    (λ c. rw (c .fault-with .ensures, c .before .party-fits-to .ensures, c .before .before .is-below .ensures)))
+    (λ c.
+    rw (
+      c .fault-with .ensures,
+      c .before .party-fits-to .ensures,
+      c .before .before .is-below .ensures,
+    )))

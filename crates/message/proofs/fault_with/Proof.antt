@@ -13,7 +13,23 @@ fault-with-spec =
     (tie.spec
     (λ c κs. search needs)
     (λ c κs. search needs)
-    (λ c. rw (told (c .before .before .before .before .hosts-fit .ensures) (c .before .before .before .if1 .taken), told (c .before .before .ticks-fit .ensures) (c .before .if2 .taken), c .if3 .taken))
-    (λ c. rw (told (c .before .before .before .before .hosts-fit .ensures) (c .before .before .before .if1 .taken), told (c .before .before .ticks-fit .ensures) (c .before .if2 .taken), c .if3 .left))
-    (λ c. rw (told (c .before .before .before .hosts-fit .ensures) (c .before .before .if1 .taken), told (c .before .ticks-fit .ensures) (c .if2 .left)))
+    (λ c.
+    rw (
+      told (c .before .before .before .before .hosts-fit .ensures)
+          (c .before .before .before .if1 .taken),
+      told (c .before .before .ticks-fit .ensures) (c .before .if2 .taken),
+      c .if3 .taken,
+    ))
+    (λ c.
+    rw (
+      told (c .before .before .before .before .hosts-fit .ensures)
+          (c .before .before .before .if1 .taken),
+      told (c .before .before .ticks-fit .ensures) (c .before .if2 .taken),
+      c .if3 .left,
+    ))
+    (λ c.
+    rw (
+      told (c .before .before .before .hosts-fit .ensures) (c .before .before .if1 .taken),
+      told (c .before .ticks-fit .ensures) (c .if2 .left),
+    ))
     (λ c. rw (told (c .before .hosts-fit .ensures) (c .if1 .left))))

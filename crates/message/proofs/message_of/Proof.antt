@@ -16,4 +16,12 @@ message-of-spec =
     (λ c. simp (c .before .before .before .before .head-of .ensures, c .match .keys3))
     (λ c. simp (c .before .before .before .before .head-of .ensures, c .match .keys4))
     (λ c. simp (c .before .before .before .before .head-of .ensures, c .match .keys5))
-    (λ c. simp (c .before .before .before .before .head-of .ensures, ne-eqb _ _ (c .match .rest .0 .0 .0 .0 .1), ne-eqb _ _ (c .match .rest .0 .0 .0 .1), ne-eqb _ _ (c .match .rest .0 .0 .1), ne-eqb _ _ (c .match .rest .0 .1), ne-eqb _ _ (c .match .rest .1))))
+    (λ c.
+    simp (
+      c .before .before .before .before .head-of .ensures,
+      ne-eqb _ _ (c .match .rest .0 .0 .0 .0 .1),
+      ne-eqb _ _ (c .match .rest .0 .0 .0 .1),
+      ne-eqb _ _ (c .match .rest .0 .0 .1),
+      ne-eqb _ _ (c .match .rest .0 .1),
+      ne-eqb _ _ (c .match .rest .1),
+    )))

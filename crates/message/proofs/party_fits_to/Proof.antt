@@ -11,5 +11,6 @@ party-fits-to-spec =
     (tie.spec
     (λ c κs. search needs)
     (λ c κs. search needs)
-    (λ c. rw (c .is-only .ensures, ← c .before .before .is-response .ensures, c .before .if1 .taken))
+    (λ c.
+    rw (c .is-only .ensures, ← c .before .before .is-response .ensures, c .before .if1 .taken))
     (λ c. rw (← c .before .before .is-response .ensures, c .before .if1 .left)))

@@ -10,7 +10,8 @@ use Rattle.places.proofs.clocks_ok.Statement.{statement}
 use Rattle.places.proofs.clocks_ok.Tie as tie
 
 abbrev Inv-loop : tie.InvT-loop
-Inv-loop s hosts n high₀ low₀ i₀ high low i = (length hosts ≡ 9) × (n ≡ s .n) × (n ≤ 9) × (1 ≤ i) × (i ≤ n) × Span hosts n i low high
+Inv-loop s hosts n high₀ low₀ i₀ high low i = (length hosts ≡ 9) × (n ≡ s .n) × (n ≤ 9) × (1 ≤ i)
+    × (i ≤ n) × Span hosts n i low high
 
 abbrev μ-loop : tie.MeasureT-loop
 μ-loop s hosts n high₀ low₀ i₀ high low i = n - i
@@ -36,12 +37,23 @@ clocks-ok-spec =
     (λ c.
     let a = c .before .before .before .before .before .before .before .args in
     let l = c .before .before .before .before .loop in
-    let on = span-next (a .t2) (a .s .n) (l .i) (l .low) (l .high) (c .before .before .before .loop-test .taken) (l .inv .5) in
-    (l .inv .0, refl, l .inv .2, omega arith, omega arith, rw (c .earlier-of .ensures, c .before .later-of .ensures) on))
-    (λ c κs. let a = c .before .before .before .before .args in let l = c .before .loop in span-order (a .t2) (a .s .n) (l .i) (l .low) (l .high) (l .inv .3) (l .inv .5))
+    let on =
+    span-next (a .t2) (a .s .n) (l .i) (l .low) (l .high)
+    (c .before .before .before .loop-test .taken) (l .inv .5) in (
+      l .inv .0,
+      refl,
+      l .inv .2,
+      omega arith,
+      omega arith,
+      rw (c .earlier-of .ensures, c .before .later-of .ensures) on,
+    ))
+    (λ c κs. let a = c .before .before .before .before .args in let l = c .before .loop in
+    span-order (a .t2) (a .s .n) (l .i) (l .low) (l .high) (l .inv .3) (l .inv .5))
     (λ c.
     let a = c .before .before .before .before .before .args in
     let l = c .before .before .loop in
     let e : l .i ≡ a .s .n = omega (arith, l .inv .4, c .before .loop-test .left) in
     let few : a .s .n ≤ length (a .t2) = omega (arith, l .inv .0, l .inv .2) in
-    c .spread-ok .ensures ∙ span-clocks (a .s) (a .t2) (l .low) (l .high) (c .before .before .before .before .before .pre .0) few (rw e at (l .inv .5))))
+    c .spread-ok .ensures
+    ∙ span-clocks (a .s) (a .t2) (l .low) (l .high)
+    (c .before .before .before .before .before .pre .0) few (rw e at (l .inv .5))))

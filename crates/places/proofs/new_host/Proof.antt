@@ -18,5 +18,10 @@ new-host-spec =
     let a = c .before .before .before .before .before .args in
     let p = c .before .before .before .before .before .pre in
     let b = c .before .before .if1 .taken in
-    rw (c .before .restart .ensures, c .before .before .before .before .blank-state .ensures, unwaited-restarts (a .s) (a .clock) (a .i) p b, lt-ltb (a .i) (a .s .n) b))
+    rw (
+      c .before .restart .ensures,
+      c .before .before .before .before .blank-state .ensures,
+      unwaited-restarts (a .s) (a .clock) (a .i) p b,
+      lt-ltb (a .i) (a .s .n) b,
+    ))
     (λ c. rw (c .before .before .blank-state .ensures, le-ltb _ _ (c .if1 .left))))

@@ -27,8 +27,16 @@ states-ok-spec =
     (λ c. search needs)
     (λ c. search needs)
     (λ c κs. search needs)
-    (λ c. sym (walked-fault (c .before .before .before .before .before .loop .inv) blankHost (omega (arith, c .before .before .before .before .loop-test .taken)) (told (c .before .state-at-ok .ensures) (not-true (c .before .state-at-ok .result) (c .if1 .taken)))))
+    (λ c.
+    sym (walked-fault (c .before .before .before .before .before .loop .inv) blankHost
+    (omega (arith, c .before .before .before .before .loop-test .taken))
+    (told (c .before .state-at-ok .ensures)
+    (not-true (c .before .state-at-ok .result) (c .if1 .taken)))))
     (λ c. search needs)
     (λ c. search needs)
-    (λ c. walked-next (c .before .before .before .before .before .loop .inv) blankHost (omega (arith, c .before .before .before .before .loop-test .taken)) (told (c .before .state-at-ok .ensures) (not-false (c .before .state-at-ok .result) (c .if1 .left))))
+    (λ c.
+    walked-next (c .before .before .before .before .before .loop .inv) blankHost
+    (omega (arith, c .before .before .before .before .loop-test .taken))
+    (told (c .before .state-at-ok .ensures)
+    (not-false (c .before .state-at-ok .result) (c .if1 .left))))
     (λ c. sym (walked-end (c .before .loop .inv) (omega (arith, c .loop-test .left)))))

@@ -25,7 +25,10 @@ round-within-spec =
     (λ c κs. search needs)
     (λ c κs. search needs)
     (λ c κs. search needs)
-    (λ c. (omega arith, rw (c .before .«open» .ensures) (opening-in (c .before .before .settings .result) 0)))
+    (λ c. (
+      omega arith,
+      rw (c .before .«open» .ensures) (opening-in (c .before .before .settings .result) 0),
+    ))
     (λ c κs. search needs)
     (λ c κs. c .before .before .loop .inv .1 .1)
     (λ c. search needs)
@@ -33,5 +36,11 @@ round-within-spec =
     (λ c κs. search needs)
     (λ c. search needs)
     (λ c. search needs)
-    (λ c. (omega (arith, c .before .before .before .before .before .loop-test .taken), rw (c .before .before .before .apply-within .ensures) (kept-event (cellOf (c .before .before .before .before .before .before .loop .a)) (c .before .before .before .before .event-at .result) (c .before .before .before .before .before .before .loop .inv .1))))
+    (λ c. (
+      omega (arith, c .before .before .before .before .before .loop-test .taken),
+      rw (c .before .before .before .apply-within .ensures)
+          (kept-event (cellOf (c .before .before .before .before .before .before .loop .a))
+          (c .before .before .before .before .event-at .result)
+          (c .before .before .before .before .before .before .loop .inv .1)),
+    ))
     (λ c. search needs))

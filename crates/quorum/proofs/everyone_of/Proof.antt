@@ -7,5 +7,6 @@ use Rattle.quorum.proofs.everyone_of.Tie as tie
 pub everyone-of-spec : {M : Type 1} → statement M
 everyone-of-spec =
     tie.close
-    (tie.spec (λ c κs. search needs) (λ c. rw (c .single-of .ensures) (pow-pos (c .before .args .n)))
+    (tie.spec (λ c κs. search needs)
+    (λ c. rw (c .single-of .ensures) (pow-pos (c .before .args .n)))
     (λ c. search needs))

@@ -11,5 +11,7 @@ pub is-below-spec : {M : Type 1} → statement M
 is-below-spec =
     tie.close
     (tie.spec
-    (λ c. rw (lt-ltb (c .before .args .set) (2 ^ c .before .args .n) (omega (arith, pow-mono {i = 16} {j = c .before .args .n} (c .if1 .taken)))))
+    (λ c.
+    rw (lt-ltb (c .before .args .set) (2 ^ c .before .args .n)
+    (omega (arith, pow-mono {i = 16} {j = c .before .args .n} (c .if1 .taken)))))
     (λ c κs. search needs) (λ c. rw (c .single-of .ensures)))

@@ -6,4 +6,5 @@ use Rattle.quorum.proofs.is_majority.Tie as tie
 
 pub is-majority-spec : {M : Type 1} → statement M
 unfolding isMajority
-is-majority-spec = tie.close (tie.spec (λ c. search needs) (λ c κs. search needs) (λ c. rw (c .size-of .ensures)))
+is-majority-spec =
+    tie.close (tie.spec (λ c. search needs) (λ c κs. search needs) (λ c. rw (c .size-of .ensures)))

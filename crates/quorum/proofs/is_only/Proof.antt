@@ -8,7 +8,13 @@ use Rattle.quorum.proofs.is_only.Statement.{statement}
 use Rattle.quorum.proofs.is_only.Tie as tie
 
 returns-2 : tie.Need-returns-2
-returns-2 c = rw (ne-eqb _ _ (c .before .if1 .left), ne-eqb (c .before .before .args .set) (2 ^ c .before .before .args .host) (λ e. omega (arith, pow-mono {i = 16} {j = c .before .before .args .host} (c .if2 .taken))))
+returns-2 c =
+    rw (
+      ne-eqb _ _ (c .before .if1 .left),
+      ne-eqb (c .before .before .args .set) (2 ^ c .before .before .args .host)
+          (λ e.
+          omega (arith, pow-mono {i = 16} {j = c .before .before .args .host} (c .if2 .taken))),
+    )
 
 pub is-only-spec : {M : Type 1} → statement M
 is-only-spec =

@@ -5,4 +5,5 @@ use Rattle.quorum.proofs.single_of.Statement.{statement}
 use Rattle.quorum.proofs.single_of.Tie as tie
 
 pub single-of-spec : {M : Type 1} → statement M
-single-of-spec = tie.close (tie.spec (λ c. search needs) (λ c. rw (shifted (c .args .host) (c .pre))))
+single-of-spec =
+    tie.close (tie.spec (λ c. search needs) (λ c. rw (shifted (c .args .host) (c .pre))))

@@ -10,4 +10,5 @@ acts-on-spec =
     tie.close
     (tie.spec (λ c κs. search needs) (λ c. rw (← c .before .is-majority .ensures, c .if1 .taken))
     (λ c κs. search needs)
-    (λ c. rw (c .is-majority2 .ensures, ← c .before .before .is-majority .ensures, c .before .if1 .left)))
+    (λ c.
+    rw (c .is-majority2 .ensures, ← c .before .before .is-majority .ensures, c .before .if1 .left)))

@@ -9,6 +9,8 @@ unfolding namedBy
 named-by-spec =
     tie.close
     (tie.spec (λ c. search needs) (λ c. search needs) (λ c κs. search needs)
-    (λ c. rw (c .before .before .before .m .given .1, ← c .before .is-above .ensures, c .if1 .taken))
+    (λ c.
+    rw (c .before .before .before .m .given .1, ← c .before .is-above .ensures, c .if1 .taken))
     (λ c. rw (c .enum-told .given .1))
-    (λ c. rw (c .before .before .before .m .given .1, ← c .before .is-above .ensures, c .if1 .left)))
+    (λ c.
+    rw (c .before .before .before .m .given .1, ← c .before .is-above .ensures, c .if1 .left)))

@@ -14,4 +14,5 @@ content-ok-spec =
     (λ c κs. search needs)
     (λ c κs. search needs)
     (λ c. rw (c .enum-told .given .1))
-    (λ c. rw (c .fault .ensures, c .before .numbers-of .ensures, c .before .before .before .c .given .1)))
+    (λ c.
+    rw (c .fault .ensures, c .before .numbers-of .ensures, c .before .before .before .c .given .1)))

@@ -28,8 +28,16 @@ slots-ok-spec =
     (λ c. search needs)
     (λ c. search needs)
     (λ c κs. search needs)
-    (λ c. sym (walked-fault (c .before .before .before .before .loop .inv) emptySlot (omega (arith, c .before .before .before .loop-test .taken)) (told (c .before .content-ok .ensures) (not-true (c .before .content-ok .result) (c .if1 .taken)))))
+    (λ c.
+    sym (walked-fault (c .before .before .before .before .loop .inv) emptySlot
+    (omega (arith, c .before .before .before .loop-test .taken))
+    (told (c .before .content-ok .ensures)
+    (not-true (c .before .content-ok .result) (c .if1 .taken)))))
     (λ c. search needs)
     (λ c. search needs)
-    (λ c. walked-next (c .before .before .before .before .loop .inv) emptySlot (omega (arith, c .before .before .before .loop-test .taken)) (told (c .before .content-ok .ensures) (not-false (c .before .content-ok .result) (c .if1 .left))))
+    (λ c.
+    walked-next (c .before .before .before .before .loop .inv) emptySlot
+    (omega (arith, c .before .before .before .loop-test .taken))
+    (told (c .before .content-ok .ensures)
+    (not-false (c .before .content-ok .result) (c .if1 .left))))
     (λ c. sym (walked-end (c .before .loop .inv) (omega (arith, c .loop-test .left)))))

@@ -9,14 +9,18 @@ use Rattle.slots.specs.Parts.{turnOf}
 use Rattle.slots.proofs.turn_of.Statement.{statement}
 use Rattle.slots.proofs.turn_of.Tie as tie
 
-passed-over : (c : tie.Then1) → isIn (c .before .before .args .receivers) (c .before .before .args .h) ≡ false
-passed-over c = sym (c .before .is-in .ensures) ∙ not-true (c .before .is-in .result) (c .if1 .taken)
+passed-over : (c : tie.Then1)
+    → isIn (c .before .before .args .receivers) (c .before .before .args .h) ≡ false
+passed-over c = sym (c .before .is-in .ensures)
+    ∙ not-true (c .before .is-in .result) (c .if1 .taken)
 
-receives : (c : tie.Else1) → isIn (c .before .before .args .receivers) (c .before .before .args .h) ≡ true
+receives : (c : tie.Else1)
+    → isIn (c .before .before .args .receivers) (c .before .before .args .h) ≡ true
 receives c = sym (c .before .is-in .ensures) ∙ not-false (c .before .is-in .result) (c .if1 .left)
 
 taken : (c : tie.Then2) → isEmpty (c .before .before .before .before .args .held .content) ≡ false
-taken c = sym (c .before .is-empty .ensures) ∙ not-true (c .before .is-empty .result) (c .if2 .taken)
+taken c = sym (c .before .is-empty .ensures)
+    ∙ not-true (c .before .is-empty .result) (c .if2 .taken)
 
 free : (c : tie.Else2) → isEmpty (c .before .before .before .before .args .held .content) ≡ true
 free c = sym (c .before .is-empty .ensures) ∙ not-false (c .before .is-empty .result) (c .if2 .left)

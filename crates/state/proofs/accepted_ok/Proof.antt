@@ -8,5 +8,6 @@ pub accepted-ok-spec : {M : Type 1} → statement M
 unfolding acceptedOk
 accepted-ok-spec =
     tie.close
-    (tie.spec (λ c. search needs) (λ c. search needs) (λ c κs. search needs) (λ c. rw (c .enum-told .given .1))
+    (tie.spec (λ c. search needs) (λ c. search needs) (λ c κs. search needs)
+    (λ c. rw (c .enum-told .given .1))
     (λ c. rw (c .lease-ok .ensures, c .before .before .a .given .1)))

@@ -9,5 +9,12 @@ pub asking-ok-spec : {M : Type 1} → statement M
 unfolding askingOk allOf
 asking-ok-spec =
     tie.close
-    (tie.spec (λ c κs. search needs) (λ c κs. search needs) (λ c κs. search needs) (λ c κs. search needs)
-    (λ c. rw (c .accepted-ok .ensures, c .before .is-below .ensures, c .before .before .duration-ok .ensures, c .before .before .before .ballot-ok .ensures)))
+    (tie.spec (λ c κs. search needs) (λ c κs. search needs) (λ c κs. search needs)
+    (λ c κs. search needs)
+    (λ c.
+    rw (
+      c .accepted-ok .ensures,
+      c .before .is-below .ensures,
+      c .before .before .duration-ok .ensures,
+      c .before .before .before .ballot-ok .ensures,
+    )))

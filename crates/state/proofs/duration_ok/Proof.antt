@@ -7,4 +7,5 @@ use Rattle.state.proofs.duration_ok.Tie as tie
 
 pub duration-ok-spec : {M : Type 1} → statement M
 unfolding durationOk
-duration-ok-spec = tie.close (tie.spec (λ c. search needs) (λ c. search needs) (λ c. search needs) (λ c. refl))
+duration-ok-spec =
+    tie.close (tie.spec (λ c. search needs) (λ c. search needs) (λ c. search needs) (λ c. refl))

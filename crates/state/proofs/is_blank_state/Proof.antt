@@ -9,6 +9,14 @@ pub is-blank-state-spec : {M : Type 1} → statement M
 unfolding isBlankState allOf
 is-blank-state-spec =
     tie.close
-    (tie.spec (λ c κs. search needs) (λ c κs. search needs) (λ c κs. search needs) (λ c κs. search needs)
+    (tie.spec (λ c κs. search needs) (λ c κs. search needs) (λ c κs. search needs)
     (λ c κs. search needs)
-    (λ c. let l = c .before .before in rw (c .no-holder .ensures, c .before .no-round .ensures, l .no-tick .ensures, l .before .no-lease .ensures, l .before .before .no-promise .ensures)))
+    (λ c κs. search needs)
+    (λ c. let l = c .before .before in
+    rw (
+      c .no-holder .ensures,
+      c .before .no-round .ensures,
+      l .no-tick .ensures,
+      l .before .no-lease .ensures,
+      l .before .before .no-promise .ensures,
+    )))

@@ -8,5 +8,6 @@ pub named-ok-spec : {M : Type 1} → statement M
 unfolding namedOk
 named-ok-spec =
     tie.close
-    (tie.spec (λ c. search needs) (λ c. search needs) (λ c κs. search needs) (λ c. rw (c .enum-told .given .1))
+    (tie.spec (λ c. search needs) (λ c. search needs) (λ c κs. search needs)
+    (λ c. rw (c .enum-told .given .1))
     (λ c. rw (c .lease-ok .ensures, c .before .before .m .given .1)))

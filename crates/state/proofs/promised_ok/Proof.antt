@@ -8,5 +8,6 @@ pub promised-ok-spec : {M : Type 1} → statement M
 unfolding promisedOk
 promised-ok-spec =
     tie.close
-    (tie.spec (λ c. search needs) (λ c. search needs) (λ c κs. search needs) (λ c. rw (c .enum-told .given .1))
+    (tie.spec (λ c. search needs) (λ c. search needs) (λ c κs. search needs)
+    (λ c. rw (c .enum-told .given .1))
     (λ c. rw (c .ballot-ok .ensures, c .before .before .p .given .1)))

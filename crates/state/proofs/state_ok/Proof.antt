@@ -9,6 +9,14 @@ pub state-ok-spec : {M : Type 1} → statement M
 unfolding stateOk allOf
 state-ok-spec =
     tie.close
-    (tie.spec (λ c κs. search needs) (λ c κs. search needs) (λ c κs. search needs) (λ c κs. search needs)
+    (tie.spec (λ c κs. search needs) (λ c κs. search needs) (λ c κs. search needs)
     (λ c κs. search needs)
-    (λ c. rw (c .named-ok .ensures, c .before .round-ok .ensures, c .before .before .last-ok .ensures, c .before .before .before .accepted-ok .ensures, c .before .before .before .before .promised-ok .ensures)))
+    (λ c κs. search needs)
+    (λ c.
+    rw (
+      c .named-ok .ensures,
+      c .before .round-ok .ensures,
+      c .before .before .last-ok .ensures,
+      c .before .before .before .accepted-ok .ensures,
+      c .before .before .before .before .promised-ok .ensures,
+    )))

@@ -21,15 +21,22 @@ abbrev μ-loop : tie.MeasureT-loop
 next : (c : tie.After-shared-slice-known Inv-loop μ-loop) →
     let a = c .before .before .before .args in
     let i = c .before .before .loop .i in
-    (getD (a .s .now) (a .at + (i - 1)) 0 + 256 * c .before .before .loop .v ≡ numberAt (a .s .now) (a .at + (i - 1)) (a .w - (i - 1)))
-    × ((numberAt (a .s .now) (a .at + (i - 1)) (a .w - (i - 1)) < 2 ^ 64) × (numberAt (a .s .now) (a .at + (i - 1)) (a .w - (i - 1)) < 2 ^ (8 * (a .w - (i - 1)))))
+    (getD (a .s .now) (a .at + (i - 1)) 0 + 256 * c .before .before .loop .v
+    ≡ numberAt (a .s .now) (a .at + (i - 1)) (a .w - (i - 1)))
+    × ((numberAt (a .s .now) (a .at + (i - 1)) (a .w - (i - 1)) < 2 ^ 64)
+    × (numberAt (a .s .now) (a .at + (i - 1)) (a .w - (i - 1)) < 2 ^ (8 * (a .w - (i - 1)))))
 next c =
     let a = c .before .before .before .args in
     let i = c .before .before .loop .i in
     let k : a .w - (i - 1) ≤ 8 = omega arith in
-    let bytes : (j : ℕ) → getD (a .s .now) j 0 < 256 = λ j. omega (arith, c .shared-slice-known .given j) in (
-      rw (c .before .before .loop .inv .1 .0) (number-front (a .s .now) (a .at) (a .w) i (omega arith) (omega arith)),
-      (number-fits (a .s .now) (a .at + (i - 1)) (a .w - (i - 1)) bytes k, number-below (a .s .now) (a .at + (i - 1)) (a .w - (i - 1)) bytes),
+    let bytes : (j : ℕ) → getD (a .s .now) j 0 < 256 = λ j.
+    omega (arith, c .shared-slice-known .given j) in (
+      rw (c .before .before .loop .inv .1 .0)
+          (number-front (a .s .now) (a .at) (a .w) i (omega arith) (omega arith)),
+      (
+        number-fits (a .s .now) (a .at + (i - 1)) (a .w - (i - 1)) bytes k,
+        number-below (a .s .now) (a .at + (i - 1)) (a .w - (i - 1)) bytes,
+      ),
     )
 
 pub get-spec : {M : Type 1} → statement M
@@ -45,7 +52,12 @@ get-spec =
     (λ c. search needs)
     (λ c. search needs)
     (λ c. search needs)
-    (λ c. omega (arith, c .shared-slice-known .given (c .before .before .before .args .at + (c .before .before .loop .i - 1))))
+    (λ c.
+    omega (
+      arith,
+      c .shared-slice-known .given
+          (c .before .before .before .args .at + (c .before .before .loop .i - 1)),
+    ))
     (λ c. omega (arith, next c .0, next c .1 .0))
     (λ c. omega (arith, next c .0, next c .1 .0))
     (λ c. search needs)

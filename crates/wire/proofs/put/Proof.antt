@@ -13,13 +13,16 @@ use Rattle.wire.proofs.put.Tie as tie
 -- what is left to store, stored now, makes what the whole makes
 abbrev Inv-loop : tie.InvT-loop
 Inv-loop out₀ at w v rest₀ i₀ out rest i =
-    (i ≤ w) × ((length out ≡ length out₀) × (sets out (at + i) (le (w - i) rest) ≡ sets out₀ at (le w v)))
+    (i ≤ w)
+    × ((length out ≡ length out₀) × (sets out (at + i) (le (w - i) rest) ≡ sets out₀ at (le w v)))
 
 abbrev μ-loop : tie.MeasureT-loop
 μ-loop out₀ at w v rest₀ i₀ out rest i = w - i
 
 -- a store takes the first of what is left
-step : (out : List ℕ) (at w i rest : ℕ) → i < w → sets out (at + i) (le (w - i) rest) ≡ sets (set out (at + i) (rest % 256)) (at + (i + 1)) (le (w - (i + 1)) (rest / 256))
+step : (out : List ℕ) (at w i rest : ℕ) → i < w
+    → sets out (at + i) (le (w - i) rest)
+    ≡ sets (set out (at + i) (rest % 256)) (at + (i + 1)) (le (w - (i + 1)) (rest / 256))
 unfolding le
 step out at w i rest h =
     let e : w - i ≡ suc (w - (i + 1)) = omega arith in
@@ -44,8 +47,13 @@ put-spec =
     (λ c. search needs)
     (λ c.
     let l = c .before .loop in
-    let a = c .before .before .args in
-    (omega arith, (simp length-set (l .inv .1 .0), sym (step (l .out) (a .at) (a .w) (l .i) (l .rest) (omega arith)) ∙ l .inv .1 .1)))
+    let a = c .before .before .args in (
+      omega arith,
+      (
+        simp length-set (l .inv .1 .0),
+        sym (step (l .out) (a .at) (a .w) (l .i) (l .rest) (omega arith)) ∙ l .inv .1 .1,
+      ),
+    ))
     (λ c. c .before .loop .inv .1 .0)
     (λ c.
     let l = c .before .loop in

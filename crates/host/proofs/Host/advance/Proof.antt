@@ -15,8 +15,10 @@ use Rattle.host.proofs.Host.advance.Statement.{statement}
 use Rattle.host.proofs.Host.advance.Tie as tie
 
 -- the host is within its limits
-within : (c : tie.Else1) → hostOk (c .before .before .args .s) (c .before .before .args .self) ≡ true
-within c = told (c .before .host-ok .ensures) (not-false (c .before .host-ok .result) (c .if1 .left))
+within : (c : tie.Else1)
+    → hostOk (c .before .before .args .s) (c .before .before .args .self) ≡ true
+within c =
+    told (c .before .host-ok .ensures) (not-false (c .before .host-ok .result) (c .if1 .left))
 
 limits : (c : tie.Else1) → HostIn (c .before .before .args .s) (c .before .before .args .self)
 limits c = host-in _ _ (within c)
@@ -26,14 +28,33 @@ unfolding advanceOf advanceRefusal firstOf lastTick
 advance-spec =
     tie.close
     (tie.spec (λ c κs. search needs) (λ c κs. search needs)
-    (λ c. rw (c .refused-with .ensures, ← c .before .before .host-ok .ensures, not-true (c .before .before .host-ok .result) (c .before .if1 .taken)))
+    (λ c.
+    rw (
+      c .refused-with .ensures,
+      ← c .before .before .host-ok .ensures,
+      not-true (c .before .before .host-ok .result) (c .before .if1 .taken),
+    ))
     (λ c κs. search needs)
-    (λ c. rw (c .refused-with2 .ensures, within (c .before .before), eq-eqb _ _ (c .before .if2 .taken)))
+    (λ c.
+    rw (c .refused-with2 .ensures, within (c .before .before), eq-eqb _ _ (c .before .if2 .taken)))
     (λ c. omega (arith, limits (c .before .before) .clock)) (λ c κs. search needs)
     (λ c.
     let d = c .before .before .before in
-    rw (c .refused-with3 .ensures, within (d .before), ne-eqb _ _ (d .if2 .left), lt-leb (d .before .before .before .args .self .clock + d .before .before .before .args .d) 281474976710656 (omega (arith, c .before .if3 .taken))))
+    rw (
+      c .refused-with3 .ensures,
+      within (d .before),
+      ne-eqb _ _ (d .if2 .left),
+      lt-leb (d .before .before .before .args .self .clock + d .before .before .before .args .d)
+          281474976710656 (omega (arith, c .before .if3 .taken)),
+    ))
     (λ c κs. omega (arith, limits (c .before .before .before) .clock)) (λ c κs. search needs)
     (λ c.
     let d = c .before .before .before .before in
-    rw (c .quiet-with .ensures, c .before .advanced-host .ensures, within (d .before), ne-eqb _ _ (d .if2 .left), le-leb (d .before .before .before .args .self .clock + d .before .before .before .args .d) 281474976710656 (omega (arith, c .before .before .if3 .left, limits (d .before) .clock)))))
+    rw (
+      c .quiet-with .ensures,
+      c .before .advanced-host .ensures,
+      within (d .before),
+      ne-eqb _ _ (d .if2 .left),
+      le-leb (d .before .before .before .args .self .clock + d .before .before .before .args .d)
+          281474976710656 (omega (arith, c .before .before .if3 .left, limits (d .before) .clock)),
+    )))

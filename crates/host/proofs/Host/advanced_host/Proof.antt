@@ -8,4 +8,5 @@ use Rattle.host.proofs.Host.advanced_host.Tie as tie
 
 pub advanced-host-spec : {M : Type 1} → statement M
 unfolding lastTick advancedHost
-advanced-host-spec = tie.close (tie.spec (λ c. omega arith) (λ c κs. search needs) (λ c. rw (c .aged-at .ensures)))
+advanced-host-spec =
+    tie.close (tie.spec (λ c. omega arith) (λ c κs. search needs) (λ c. rw (c .aged-at .ensures)))

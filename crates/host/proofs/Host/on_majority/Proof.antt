@@ -7,12 +7,25 @@ use Rattle.host.proofs.Host.on_majority.Tie as tie
 
 returns-2 : tie.Need-returns-2
 unfolding onMajority
-returns-2 c = rw (c .sending-with .ensures, c .before .everyone-of .ensures, c .before .before .with-round2 .ensures, c .before .before .before .head-from .ensures, lt-leb _ _ (c .before .before .before .before .if1 .left))
+returns-2 c =
+    rw (
+      c .sending-with .ensures,
+      c .before .everyone-of .ensures,
+      c .before .before .with-round2 .ensures,
+      c .before .before .before .head-from .ensures,
+      lt-leb _ _ (c .before .before .before .before .if1 .left),
+    )
 
 pub on-majority-spec : {M : Type 1} → statement M
 unfolding onMajority
 on-majority-spec =
     tie.close
     (tie.spec (λ c κs. search needs) (λ c κs. search needs)
-    (λ c. rw (c .quiet-with .ensures, c .before .with-round .ensures, le-leb _ _ (c .before .before .if1 .taken)))
-    (λ c κs. search needs) (λ c κs. search needs) (λ c κs. search needs) (λ c κs. search needs) returns-2)
+    (λ c.
+    rw (
+      c .quiet-with .ensures,
+      c .before .with-round .ensures,
+      le-leb _ _ (c .before .before .if1 .taken),
+    ))
+    (λ c κs. search needs) (λ c κs. search needs) (λ c κs. search needs) (λ c κs. search needs)
+    returns-2)

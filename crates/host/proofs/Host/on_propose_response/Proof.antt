@@ -9,6 +9,7 @@ unfolding onProposeResponse
 on-propose-response-spec =
     tie.close
     (tie.spec (λ c. search needs) (λ c κs. search needs) (λ c. search needs) (λ c κs. search needs)
-    (λ c. search needs) (λ c κs. search needs) (λ c. rw (c .quiet-with .ensures, c .before .enum-told .given .1))
+    (λ c. search needs) (λ c κs. search needs)
+    (λ c. rw (c .quiet-with .ensures, c .before .enum-told .given .1))
     (λ c. rw (c .quiet-with2 .ensures, c .before .enum-told2 .given .1))
     (λ c. rw (c .on-vote .ensures, c .before .before .round .given .1)))

@@ -6,10 +6,18 @@ use Rattle.host.proofs.Host.on_start.Tie as tie
 
 returns : tie.Need-returns
 unfolding onStart
-returns c = rw (c .sending-with .ensures, c .before .everyone-of .ensures, c .before .before .asking-host .ensures, c .before .before .before .head-from .ensures, c .before .before .before .before .ballot-at .ensures)
+returns c =
+    rw (
+      c .sending-with .ensures,
+      c .before .everyone-of .ensures,
+      c .before .before .asking-host .ensures,
+      c .before .before .before .head-from .ensures,
+      c .before .before .before .before .ballot-at .ensures,
+    )
 
 pub on-start-spec : {M : Type 1} → statement M
 on-start-spec =
     tie.close
-    (tie.spec (λ c κs. search needs) (λ c κs. search needs) (λ c κs. search needs) (λ c κs. search needs)
+    (tie.spec (λ c κs. search needs) (λ c κs. search needs) (λ c κs. search needs)
+    (λ c κs. search needs)
     (λ c κs. search needs) returns)

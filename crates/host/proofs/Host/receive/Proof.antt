@@ -14,18 +14,28 @@ use Rattle.host.proofs.Host.receive.Statement.{statement}
 use Rattle.host.proofs.Host.receive.Tie as tie
 
 -- what the first test tells, and what was found of the message
-within : (c : tie.Else1) → hostOk (c .before .before .args .s) (c .before .before .args .self) ≡ true
-within c = told (c .before .host-ok .ensures) (not-false (c .before .host-ok .result) (c .if1 .left))
+within : (c : tie.Else1)
+    → hostOk (c .before .before .args .s) (c .before .before .args .self) ≡ true
+within c =
+    told (c .before .host-ok .ensures) (not-false (c .before .host-ok .result) (c .if1 .left))
 
-found : (c : tie.After-fault) → faultOf (sizesOf (c .before .before .before .before .before .args .s)) (numbersOf (c .before .before .before .before .before .args .m)) ≡ c .fault .result
-found c = rw (c .fault .ensures, c .before .sizes-of .ensures, c .before .before .numbers-of .ensures)
+found : (c : tie.After-fault)
+    → faultOf (sizesOf (c .before .before .before .before .before .args .s))
+    (numbersOf (c .before .before .before .before .before .args .m)) ≡ c .fault .result
+found c =
+    rw (c .fault .ensures, c .before .sizes-of .ensures, c .before .before .numbers-of .ensures)
 
 pub receive-spec : {M : Type 1} → statement M
 unfolding receiveOf receiveRefusal firstOf numbersOf
 receive-spec =
     tie.close
     (tie.spec (λ c κs. search needs) (λ c κs. search needs)
-    (λ c. rw (c .refused-with .ensures, ← c .before .before .host-ok .ensures, not-true (c .before .before .host-ok .result) (c .before .if1 .taken)))
+    (λ c.
+    rw (
+      c .refused-with .ensures,
+      ← c .before .before .host-ok .ensures,
+      not-true (c .before .before .host-ok .result) (c .before .if1 .taken),
+    ))
     (λ c κs. search needs) (λ c κs. search needs) (λ c κs. search needs) (λ c κs. search needs)
     (λ c.
     let d = c .before .before in
@@ -34,10 +44,28 @@ receive-spec =
     (λ c κs. search needs)
     (λ c.
     let d = c .before .before .before .before .before in
-    rw (c .refused-with3 .ensures, within (d .before .before .before), found d, eq-eqb _ _ (c .before .before .before .before .if2 .left), ← d .before .before .numbers-of .ensures, ne-eqb _ _ (c .before .if3 .taken)))
+    rw (
+      c .refused-with3 .ensures,
+      within (d .before .before .before),
+      found d,
+      eq-eqb _ _ (c .before .before .before .before .if2 .left),
+      ← d .before .before .numbers-of .ensures,
+      ne-eqb _ _ (c .before .if3 .taken),
+    ))
     (λ c κs.
     let d = c .before .before .before .before in
-    record { host = within (d .before .before .before); message = found d ∙ c .before .before .before .if2 .left })
+    record {
+      host = within (d .before .before .before);
+      message = found d
+          ∙ c .before .before .before .if2 .left;
+    })
     (λ c.
     let d = c .before .before .before .before .before in
-    rw (c .on-delivery .ensures, within (d .before .before .before), found d, eq-eqb _ _ (c .before .before .before .before .if2 .left), ← d .before .before .numbers-of .ensures, eq-eqb _ _ (c .before .if3 .left))))
+    rw (
+      c .on-delivery .ensures,
+      within (d .before .before .before),
+      found d,
+      eq-eqb _ _ (c .before .before .before .before .if2 .left),
+      ← d .before .before .numbers-of .ensures,
+      eq-eqb _ _ (c .before .if3 .left),
+    )))
