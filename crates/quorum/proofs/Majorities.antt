@@ -115,41 +115,52 @@ nobody-short n = lt-leb (majoritySize n) 0 (omega arith)
 
 -- ---- adding a host
 
--- by the set's digits, the lowest first
-with-first : (s : ℕ) → withHost s 0 ≡ s / 2 * 2 + 1
-with-first s = or-step s 1 ∙ ap (λ (x : ℕ). x * 2 + max (s % 2) 1) (or-zero-r (s / 2))
+-- one digit set, by the digits of a number, the lowest first
+or-first : (s : ℕ) → bitOr s 1 ≡ s / 2 * 2 + 1
+or-first s =
+    or-step s 1
+    ∙ ap (λ (x : ℕ). x * 2 + max (s % 2) 1) (or-zero-r (s / 2))
     ∙ omega (arith, bit-le s 0)
 
-with-next : (s h : ℕ) → withHost s (suc h) ≡ withHost (s / 2) h * 2 + s % 2
-with-next s h =
+or-next : (s h : ℕ) → bitOr s (2 ^ suc h) ≡ bitOr (s / 2) (2 ^ h) * 2 + s % 2
+or-next s h =
     let half : 2 ^ suc h / 2 ≡ 2 ^ h =
     rw (one-mul (2 ^ suc h), one-mul (2 ^ h)) at (shifted-half 1 h) in
     let even : 2 ^ suc h % 2 ≡ 0 = rw (one-mul (2 ^ suc h)) at (shifted-even 1 h) in
-    or-step s (2 ^ suc h) ∙ ap₂ (λ (x y : ℕ). bitOr (s / 2) x * 2 + max (s % 2) y) half even
+    or-step s (2 ^ suc h)
+    ∙ ap₂ (λ (x y : ℕ). bitOr (s / 2) x * 2 + max (s % 2) y) half even
     ∙ omega arith
 
 bit-next : (s h : ℕ) → bit (s / 2) h ≡ bit s (suc h)
 bit-next s h = ap (λ (x : ℕ). x % 2) (shr-shr s 1 h ∙ ap (λ (k : ℕ). s / 2 ^ k) (omega arith))
 
--- a host that is in the set is not added again
-pub with-again : (s h : ℕ) → bit s h ≡ 1 → withHost s h ≡ s
-with-again s zero e = with-first s ∙ omega (arith, rw (div-one s) at e)
-with-again s (suc h) e =
-    let r = with-again (s / 2) h (bit-next s h ∙ e) in
-    with-next s h ∙ omega (arith, r)
+or-again : (s h : ℕ) → bit s h ≡ 1 → bitOr s (2 ^ h) ≡ s
+or-again s zero e = or-first s ∙ omega (arith, rw (div-one s) at e)
+or-again s (suc h) e =
+    let r = or-again (s / 2) h (bit-next s h ∙ e) in
+    or-next s h ∙ omega (arith, r)
 
 ones-pair : (q b : ℕ) → b < 2 → ones (q * 2 + b) ≡ ones q + b
 ones-pair q b p = ones-cat 1 q b p ∙ ap (λ (x : ℕ). ones q + x) (ones-bit b p)
 
+or-new : (s h : ℕ) → bit s h ≡ 0 → ones (bitOr s (2 ^ h)) ≡ ones s + 1
+or-new s zero e =
+    ap ones (or-first s)
+    ∙ ones-pair (s / 2) 1 (omega arith)
+    ∙ omega (arith, rw (div-one s) at e, ones-step s)
+or-new s (suc h) e =
+    let r = or-new (s / 2) h (bit-next s h ∙ e) in
+    ap ones (or-next s h)
+    ∙ ones-pair (bitOr (s / 2) (2 ^ h)) (s % 2) (omega arith)
+    ∙ omega (arith, r, ones-step s)
+
+-- a host that is in the set is not added again
+pub with-again : (s h : ℕ) → bit s h ≡ 1 → withHost s h ≡ s
+with-again s h e = or-again s h e
+
 -- a host that is not in the set makes it larger by one
 pub with-new : (s h : ℕ) → bit s h ≡ 0 → sizeOf (withHost s h) ≡ sizeOf s + 1
-with-new s zero e =
-    ap ones (with-first s) ∙ ones-pair (s / 2) 1 (omega arith)
-    ∙ omega (arith, rw (div-one s) at e, ones-step s)
-with-new s (suc h) e =
-    let r = with-new (s / 2) h (bit-next s h ∙ e) in
-    ap ones (with-next s h) ∙ ones-pair (withHost (s / 2) h) (s % 2) (omega arith)
-    ∙ omega (arith, r, ones-step s)
+with-new s h e = or-new s h e
 
 max-lt : (a b : ℕ) → a < 2 → b < 2 → max a b < 2
 max-lt a b p q = omega arith
