@@ -1,4 +1,4 @@
--- `rounds_within` ends after as many rounds; a round asks for nothing, as it opens its own cell.
+-- `rounds_within` ends after 20,000 rounds; each opens its own cell, and so asks for nothing.
 use borrow.Author.Needs.{needs}
 use Prim.Native.Nat.{_≤_, _-_}
 use Rattle.play.proofs.rounds_within.Statement.{statement}

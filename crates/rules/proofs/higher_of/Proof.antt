@@ -1,4 +1,4 @@
--- `higher_of`: of two leases the one of the higher ballot, and what was kept at a tie.
+-- `higher_of`: a lease rather than none, of two the one of the higher ballot, at a tie the kept.
 use Rattle.rules.specs.Rules.{higherOf}
 use borrow.Author.Needs.{needs}
 use Rattle.rules.proofs.higher_of.Statement.{statement}

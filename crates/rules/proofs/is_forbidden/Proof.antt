@@ -1,4 +1,4 @@
--- `is_forbidden`: the promise is above the ballot; no promise forbids nothing.
+-- `is_forbidden`: the promise is above the ballot; where nothing is promised, no ballot is.
 use Rattle.rules.specs.Rules.{isForbidden}
 use borrow.Author.Needs.{needs}
 use Rattle.rules.proofs.is_forbidden.Statement.{statement}

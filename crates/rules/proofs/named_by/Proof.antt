@@ -1,4 +1,4 @@
--- `named_by`: a holder replaces the named one only under a higher ballot.
+-- `named_by`: the new holder where nobody is named or its ballot is higher, else the named one.
 use Rattle.rules.specs.Rules.{namedBy}
 use borrow.Author.Needs.{needs}
 use Rattle.rules.proofs.named_by.Statement.{statement}
