@@ -298,8 +298,8 @@ impl Host {
         self.on_message(s, m)
     }
 
-    // Takes a message of any kind: refused as writing to its target refuses it, and by 7 where its
-    // target is another host.
+    // Takes a message of any kind. Refused by 1, then by 5, 6 and 7 as writing to its target
+    // refuses it, then by 7 where its target is another host. A waiting host does nothing.
     pub fn receive(self, s: Settings, m: Message) -> Stepped
         ensures { λ r. ⌜ r ≡ receiveOf s self m ⌝ }
     {
