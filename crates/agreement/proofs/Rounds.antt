@@ -3,13 +3,11 @@
 use mathlib.Core.Path.{_≡_, sym, ap, _∙_}
 use mathlib.Core.Bool.{false}
 use mathlib.Core.List.{List, [], _∷_}
-use mathlib.Core.Logic.{_⊎_, inl, inr}
-use Prim.Native.Nat.{ℕ, _≤_, _<_}
+use Prim.Native.Nat.{ℕ}
 use lib.Dec.{ltb}
 use Rattle.base.proofs.Tests.{by-test}
 use Rattle.quorum.specs.Sets.{isMajority}
 use Rattle.quorum.proofs.Majorities.{nobody-short}
-use Rattle.message.specs.Message.{targetOf}
 use Rattle.rules.specs.Rules.{actsOn}
 use Rattle.rules.proofs.Laws.{acts-first}
 use Rattle.state.specs.declared.Settings.{Settings}
@@ -18,32 +16,23 @@ use Rattle.state.proofs.StateLimits.{settings-in}
 use Rattle.host.specs.declared.Host.{Host}
 use Rattle.host.specs.declared.Stepped.{Stepped}
 use Rattle.host.specs.Steps.{advancedHost, restartedHost, onStart}
-use Rattle.host.proofs.Outcomes.{Cause, begins, gets, stepOn, Outcome, nothing, begun, promised}
-use Rattle.host.proofs.Outcomes.{heard, proposed, gaveUp, accepted, countedVote, named, namedAlone}
-use Rattle.host.proofs.Outcomes.{told, outcome}
+use Rattle.host.proofs.Outcomes.{Cause, stepOn, Outcome, outcome, nothing, begun, promised, heard}
+use Rattle.host.proofs.Outcomes.{proposed, gaveUp, accepted, countedVote, named, namedAlone, told}
 use Rattle.places.specs.Places.{newHost}
 use Rattle.places.specs.Parts.{Opens}
-use Rattle.slots.specs.declared.Slot.{Slot}
-use Rattle.slots.specs.declared.Content.{Content}
 use Rattle.cell.specs.declared.Cell.{Cell}
 use Rattle.cell.specs.declared.Event.{Event}
-use Rattle.cell.specs.declared.Event.the-variants.{AdvanceAll, AdvanceOne, Start, Deliver, Lose}
-use Rattle.cell.specs.declared.Event.the-variants.{Repeat, Restart}
-use Rattle.cell.specs.declared.Answered.{Answered}
-use Rattle.cell.specs.CellLimits.{hostAt, withHost, contentAt}
-use Rattle.cell.specs.Events.{cellOf, stepped, openedWith, advancedAll, advancedOne, delivered}
-use Rattle.cell.specs.Events.{repeated, afterOf, eventOf}
+use Rattle.cell.specs.CellLimits.{hostAt}
+use Rattle.cell.specs.Events.{cellOf, openedWith, eventOf}
 use Rattle.cell.specs.Runs.{opening, run}
 use Rattle.cell.specs.Claims.{Sound}
-use Rattle.cell.proofs.Hosts.{by-host, all-below, all-above}
-use Rattle.cell.proofs.CellLimits.{n-of}
-use Rattle.cell.proofs.Events.{by-outcome}
+use Rattle.cell.proofs.HostChanges.{Changes, by-change}
+use Rattle.cell.proofs.Events.{settings-same}
 use Rattle.cell.proofs.StaysWithin.{opened-at, by-opening, kept-event}
-use Rattle.theory.proofs.Ballots.{le-or-lt}
-use Rattle.agreement.specs.EveryRun.{repliedIn, repliedAt}
+use Rattle.agreement.specs.EveryRun.{repliedIn}
 
 -- who replied in the host's round is no majority of n
-abbrev Short : ℕ → Host → Type 0
+abbrev pub Short : ℕ → Host → Type 0
 Short n h = isMajority n (repliedIn (h .state .round)) ≡ false
 
 -- ---- one host
@@ -88,53 +77,20 @@ short-new n s clock k =
 -- ---- the cell
 
 abbrev pub Undecided : Cell → Type 0
-Undecided c = (h : ℕ) → isMajority (c .settings .n) (repliedAt c h) ≡ false
+Undecided c = (h : ℕ) → Short (c .settings .n) (hostAt c h)
 
-all-short : (c : Cell) (d : ℕ) → Sound c → Undecided c → Undecided (advancedAll c d)
-unfolding advancedAll
-all-short c d o u k = go (le-or-lt (c .settings .n) k)
-  where
-    go : (c .settings .n ≤ k) ⊎ (k < c .settings .n)
-        → Short (c .settings .n) (hostAt (advancedAll c d) k)
-    go (inl b) = rw (all-above c d k b) (u k)
-    go (inr b) =
-        rw (all-below c d (o .0) (n-of c (o .1) .few) k b)
-        (short-advanced (c .settings .n) (hostAt c k) d (u k))
-
-one-short : (c : Cell) (h : ℕ) (x : Host) → Undecided c → Short (c .settings .n) x
-    → Undecided (withHost c h x)
-one-short c h x u p k = by-host c h x (Short (c .settings .n)) k (λ _. p) (u k)
-
-step-short : (c : Cell) (h : ℕ) (ss : List Slot) (cause : Cause) → Undecided c
-    → Undecided (stepped c h ss (stepOn (c .settings) (hostAt c h) cause))
-unfolding stepped
-step-short c h ss cause u = one-short c h _ u (short-step (c .settings) (hostAt c h) cause (u h))
-
-deliver-short : (c : Cell) (i : ℕ) (t : Content) → Undecided c → Undecided (delivered c i t)
-unfolding delivered
-deliver-short c i Content.Empty u = u
-deliver-short c i (Content.One m) u = step-short c (targetOf m) _ (gets m) u
-
-repeat-short : (c : Cell) (t : Content) → Undecided c → Undecided (repeated c t)
-unfolding repeated
-repeat-short c Content.Empty u = u
-repeat-short c (Content.One m) u = u
-
-after-short : (c : Cell) (e : Event) → Sound c → Undecided c → Undecided (afterOf c e)
-unfolding afterOf advancedOne
-after-short c (AdvanceAll d) o u = all-short c d o u
-after-short c (AdvanceOne h d) o u =
-    one-short c h _ u (short-advanced (c .settings .n) (hostAt c h) d (u h))
-after-short c (Start h d) o u = step-short c h (c .slots) (begins d) u
-after-short c (Deliver i) o u = deliver-short c i (contentAt c i) u
-after-short c (Lose i) o u = u
-after-short c (Repeat i) o u = repeat-short c (contentAt c i) u
-after-short c (Restart h) o u =
-    one-short c h _ u (short-restarted (c .settings .n) (c .settings) (hostAt c h))
+-- what is short of a majority stays so, whatever changes a host
+stays-short : (s : Settings) → Changes s (λ h x. Short (s .n) h → Short (s .n) x)
+stays-short s = record {
+  same = λ h p. p;
+  advanced = short-advanced (s .n);
+  stepped = short-step s;
+  restarted = λ h _. short-restarted (s .n) s h;
+}
 
 event-short : (c : Cell) (e : Event) → Sound c → Undecided c → Undecided (cellOf (eventOf c e))
-event-short c e o u =
-    by-outcome (λ (x : Answered). Undecided (cellOf x)) c e (λ _. after-short c e o u) (λ _. u)
+event-short c e o u h =
+    rw (settings-same c e) (by-change c _ (stays-short (c .settings)) o e h (u h))
 
 pub undecided-run : (c : Cell) (es : List Event) → Sound c → Undecided c → Undecided (run c es)
 unfolding run

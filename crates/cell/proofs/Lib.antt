@@ -3,4 +3,5 @@ pub mod Hosts
 pub mod CellLimits
 pub mod Events
 pub mod StaysWithin
+pub mod HostChanges
 pub mod Claims
