@@ -22,7 +22,8 @@ use Rattle.message.specs.declared.Message.the-variants.{ProposeResponse, Learn}
 use Rattle.message.specs.Message.{lastTick, lastEnd, knownKind, numbersOf}
 use Rattle.message.specs.Faults.{sizesFit, faultOf}
 use Rattle.message.proofs.Laws.{fault-passed, kind-known, message-numbers}
-use Rattle.layout.specs.Layout.{Fit, moreOf, kindLength, headLength, bytesOf, numbersIn}
+use Rattle.layout.specs.Layout.{Fit, moreOf, kindLength, bytesOf, numbersIn}
+use Rattle.layout.specs.Parts.{headLength}
 use Rattle.layout.proofs.Laws.{length-least, bytes-length, numbers-back, numbers-whole}
 use Rattle.frame.specs.declared.Reading.the-variants.{Whole, Refused}
 use Rattle.frame.specs.Reading.{toldLength, toldKind, readAnswer, readOf, numberOf, lengthOf}

@@ -19,8 +19,9 @@ use Rattle.message.specs.Faults.{Field, frameLength, kindNumber, sender, ballot
 use Rattle.message.specs.Faults.{acceptedHost, owner, keepersEnd, holdersEnd}
 use Rattle.message.proofs.Laws.{by-kind}
 use Rattle.layout.specs.Layout.{Fit, widthOf, common, moreOf, fieldsOf, widths, kindLength}
-use Rattle.layout.specs.Layout.{offsetIn, lengthOffset, kindOffset, foreLength, ballotOffset}
-use Rattle.layout.specs.Layout.{headLength, mostLength, valueOf, bytesOf, valueIn}
+use Rattle.layout.specs.Layout.{offsetIn, lengthOffset, kindOffset, foreLength}
+use Rattle.layout.specs.Layout.{valueOf, bytesOf, valueIn}
+use Rattle.layout.specs.Parts.{ballotOffset, headLength, mostLength}
 use Rattle.layout.specs.Layout.{numbersFrom, numbersIn}
 
 -- ---- lengths

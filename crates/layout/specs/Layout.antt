@@ -85,17 +85,6 @@ kindOffset = 2
 abbrev pub foreLength : ℕ
 foreLength = 4
 
--- where the ballot begins, and how long the head is, the fields that every frame begins with
-abbrev pub ballotOffset : ℕ
-ballotOffset = 6
-
-abbrev pub headLength : ℕ
-headLength = 15
-
--- how long the longest frame is
-abbrev pub mostLength : ℕ
-mostLength = 33
-
 -- ---- numbers as bytes
 
 -- what a message's numbers have in a field

@@ -1,5 +1,5 @@
--- The groups of fields that the code reads together, and the room that it writes into. Assumes
--- nothing.
+-- Lengths and offsets that the code has by name, the groups of fields that it reads together, and
+-- the room that it writes into. Assumes nothing.
 use mathlib.Core.Path.{_≡_}
 use mathlib.Core.List.{List}
 use Prim.Native.Nat.{ℕ, _≤_}
@@ -12,6 +12,17 @@ use Rattle.message.specs.Message.{prepareRequest, prepareResponseLease, headWit
 use Rattle.message.specs.Faults.{Field, sender, target, ballotTick, ballotHost, acceptedTick}
 use Rattle.message.specs.Faults.{acceptedHost, owner, keepersEnd}
 use Rattle.layout.specs.Layout.{widthOf, kindLength, offsetOf}
+
+-- where the ballot begins, and how long the head is, the fields that every frame begins with
+abbrev pub ballotOffset : ℕ
+ballotOffset = 6
+
+abbrev pub headLength : ℕ
+headLength = 15
+
+-- how long the longest frame is
+abbrev pub mostLength : ℕ
+mostLength = 33
 
 -- the number in a field of a frame of kind k
 abbrev pub fieldAt : List ℕ → ℕ → Field → ℕ
