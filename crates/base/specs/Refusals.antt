@@ -54,6 +54,9 @@ refusedSpread = 14
 abbrev pub refusedClock : ℕ
 refusedClock = 15
 
+abbrev pub refusedLong : ℕ
+refusedLong = 16
+
 -- ---- answers
 
 -- 0 where a test holds, else the refusal's number

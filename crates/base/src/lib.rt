@@ -31,3 +31,5 @@ pub const REFUSED_FULL: u8 = 13;
 pub const REFUSED_SPREAD: u8 = 14;
 
 pub const REFUSED_CLOCK: u8 = 15;
+
+pub const REFUSED_LONG: u8 = 16;

@@ -1,0 +1,2 @@
+-- Laws of a listing's lines: how long their parts are, the walk over names, and lines in a row.
+pub mod Laws

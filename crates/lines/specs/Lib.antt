@@ -1,0 +1,2 @@
+-- The lines of a listing, and their text.
+pub mod Lines

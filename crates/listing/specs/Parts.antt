@@ -1,0 +1,62 @@
+-- The lines as the loop writes them, with its counts so far, and what a caller of the listing
+-- needs. No claim rests on it. Assumes nothing.
+use mathlib.Core.Path.{_≡_}
+use Prim.Native.Nat.{ℕ, _+_, _-_, _*_, _≤_}
+use mathlib.Core.Bool.{cond}
+use mathlib.Core.List.{List, [], _∷_}
+use lib.Dec.{eqb}
+use lib.ListN.{length, take}
+use Rattle.base.specs.Refusals.{done}
+use Rattle.text.specs.Parts.{Put}
+use Rattle.host.specs.declared.Host.{Host}
+use Rattle.cell.specs.declared.Cell.{Cell}
+use Rattle.cell.specs.Events.{cellOf, eventOf}
+use Rattle.cell.specs.Claims.{Sound}
+use Rattle.record.specs.declared.Record.{Record}
+use Rattle.record.specs.Record.{kindOf}
+use Rattle.lines.specs.Lines.{Line, event, stop, counts, namesFrom, lineText}
+use Rattle.listing.specs.declared.Walk.{Walk}
+use Rattle.listing.specs.Listing.{Script, ends, cuts, then, namesOf, settingsLength}
+use Rattle.listing.specs.Listing.{longestRun}
+
+-- 1 for the answer 0, else 0
+unfoldable pub doneOf : ℕ → ℕ
+doneOf answer = cond (eqb answer done) 1 0
+
+-- the lines still to come, where so many events were applied and refused before
+unfoldable pub linesAfter : ℕ → ℕ → Cell → Script → List Line
+linesAfter a r c ends = counts a r ∷ []
+linesAfter a r c (cuts at f) = stop at f ∷ counts a r ∷ []
+linesAfter a r c (then e more) =
+    let x = eventOf c e in
+    let d = doneOf (x .answer) in
+    event (a + r + 1) (kindOf e) (x .answer) (namesOf (cellOf x))
+    ∷ linesAfter (a + d) (r + (1 - d)) (cellOf x) more
+
+-- how a listing ends at a record that is no event
+unfoldable pub lastLines : ℕ → ℕ → ℕ → Record → List Line
+lastLines at a r Record.End = counts a r ∷ []
+lastLines at a r (Record.Fault f) = stop at f ∷ counts a r ∷ []
+lastLines at a r (Record.Event e next) = counts a r ∷ []
+
+-- what the turn of an event gives: its line is written, and its answer counted
+pub record Turned (w : Walk) (kind answer n : ℕ) (hosts : List Host) (next : ℕ) (r : Walk)
+    (before after : List ℕ) : Type 0 where
+  pub at : r .at ≡ next
+  pub applied : r .applied ≡ w .applied + doneOf answer
+  pub refused : r .refused ≡ w .refused + (1 - doneOf answer)
+  pub line : Put before (w .pos)
+      (lineText (event (w .applied + w .refused + 1) kind answer (namesFrom hosts n 0))) (r .pos)
+      after
+  pub near : r .pos ≤ w .pos + 50
+
+-- what the walk of a run file of whole settings supposes
+pub record Begins (run out : List ℕ) (from : ℕ) (c : Cell) : Type 0 where
+  pub there : settingsLength ≤ length run
+  pub short : length run ≤ longestRun
+  pub room : from + 10 * (length run - settingsLength) + 128 ≤ length out
+  pub sound : Sound c
+
+-- n counts bytes at the start of xs, said in the two ways by which `&out[..n]` needs no proof
+abbrev pub Counts : ℕ → List ℕ → Type 0
+Counts n xs = (n ≤ length xs) × (n ≡ length (take n xs))

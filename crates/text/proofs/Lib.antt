@@ -1,0 +1,3 @@
+-- Laws of digits and of text put at an offset, and the claims.
+pub mod Laws
+pub mod Claims
