@@ -1,0 +1,66 @@
+// The situations that could only be met by luck before, as run files in data/: the listing of each,
+// beneath a line that says what it shows. Held to the file stdout. (A frame whose length field lies
+// is the program `frames`.)
+use libc::STDOUT_FILENO;
+
+// Writes the listing of a run file.
+fn show_run(run: &[u8]) {
+    let mut out = room::listing_bytes();
+    let listed = listing::list(run, &mut out);
+    let len = listed.len;
+    io::write_all(STDOUT_FILENO, &out[..len]);
+}
+
+// What a run file shows, and its listing.
+fn show(name: &[u8], what: &[u8]) {
+    print::word(name);
+    print::word(b": ");
+    print::word(what);
+    print::line_end();
+    let file = os::open_read(name);
+    if file < 0 {
+        os::fail(name);
+        return;
+    }
+    let mut run = room::run_bytes();
+    let n = io::read_full(file, &mut run);
+    libc::close(file);
+    show_run(&run[..n]);
+    print::line_end();
+}
+
+fn main() {
+    // Host 0 holds the lease by its own vote and host 2's, while all that was sent to host 1 is
+    // held back; host 1 restarts at 105 and waits until 210. The proposal at 209, while it waits,
+    // and proposal, learn and prepare at 210 change no name; then the lease passes to host 1.
+    show(
+        b"held_back.run",
+        b"messages held back until their receiver has restarted and rejoined",
+    );
+    // A learn and a proposal to host 1, each delivered three times: in time, again before the end
+    // (154 and 159) and at the end (155 and 160). Then the lease passes to host 2.
+    show(
+        b"delivered_twice.run",
+        b"a learn and a proposal delivered again across a lease's end",
+    );
+    // Clocks at 110 and 105, and hosts 0 and 1 start at 110. Host 4 promises both, so that host 0
+    // is one vote short. At 160 and 155 those behind name on, and host 0, ahead, cannot take the
+    // lease over; at 170 and 165 it passes to host 0.
+    show(
+        b"nine_clocks.run",
+        b"nine clocks at the worst spread, two rounds started in one tick",
+    );
+    // Host 1 promises to host 0, restarts, and is then handed the proposal: it waits and does not
+    // vote. Host 2, which had promised nothing, makes the majority. The lease passes to host 2,
+    // while host 1 waits, and to host 1.
+    show(
+        b"restart_after_promise.run",
+        b"a restart between a promise and its acceptance",
+    );
+    // Events of an opened cell: each number that one can be refused by.
+    show(b"answers.run", b"the answers 5 and 9 to 15");
+    show(
+        b"last_tick.run",
+        b"15 at the last tick that a clock may have",
+    );
+}

@@ -1,0 +1,113 @@
+//! One run for each wrong build, in which it comes to two holders; what differs from seed to seed
+//! is the settings. In the right build each is a run like any other.
+
+use crate::builds::Build;
+use crate::cell::{Event, Settings, LAST_TICK};
+use crate::driver::{is_response, Driver, Phase, PHASES};
+use crate::random::Random;
+
+/// The run for the wrong build at that place of `WRONG_RULES`, as the cell of a build goes
+/// through it.
+pub fn run(seed: u64, of: usize, build: Build) -> Vec<u8> {
+    let mut random = Random::new(seed);
+    let settings = settings(&mut random);
+    let duration = u64::from(settings.longest - settings.spread);
+    let mut driver = match Driver::open(settings, build) {
+        Some(driver) => driver,
+        None => return Vec::new(),
+    };
+    driver.advance_all(u64::from(settings.longest) + u64::from(settings.spread));
+    match of {
+        0 => accepted_over(&mut driver, duration),
+        1 => answered_by_itself(&mut driver, duration),
+        2 => named_behind_the_others(&mut driver, duration),
+        _ => answered_before_a_restart(&mut driver, duration),
+    }
+    driver.bytes
+}
+
+/// An odd number of hosts, 3 to 9, and leases long enough for a few ticks to pass in them.
+fn settings(random: &mut Random) -> Settings {
+    let n = 2 * random.between(1, 4) as u8 + 1;
+    let longest = random.between(20, 2_000) as u32;
+    let spread = random.between(1, u64::from(longest) - 10) as u32;
+    let clock = match random.below(3) {
+        0 => 0,
+        1 => random.below(LAST_TICK / 2),
+        _ => LAST_TICK - 10 * u64::from(longest),
+    };
+    Settings { n, longest, spread, clock }
+}
+
+/// Host 0 is accepted by hosts that have not seen its ballot before, and have promised a lower one
+/// of another host. That one is accepted over it there, and then finds its own lease with a
+/// majority that has nothing of host 0's.
+fn accepted_over(driver: &mut Driver, duration: u64) {
+    let n = driver.cell.rules.n;
+    let other = n / 2 + 1;
+    let with_other = || (other..n).chain([1]);
+    let with_first = || (other..n).chain([0]);
+    driver.start(other, duration);
+    driver.request(other, Phase::Prepare, with_other());
+    driver.respond(other, Phase::Prepare, with_other());
+    driver.advance_all(1);
+    driver.start(0, duration);
+    driver.request(0, Phase::Prepare, 0..other);
+    driver.respond(0, Phase::Prepare, 0..other);
+    driver.request(0, Phase::Propose, with_first());
+    driver.respond(0, Phase::Propose, with_first());
+    driver.request(other, Phase::Propose, other..n);
+    driver.advance_all(1);
+    driver.round(other, duration, with_other());
+}
+
+/// Host 0 takes a lease by its own responses, repeated, and so does host 1.
+fn answered_by_itself(driver: &mut Driver, duration: u64) {
+    let majority = driver.cell.rules.majority();
+    for host in [0, 1] {
+        driver.start(host, duration);
+        for phase in PHASES {
+            driver.request(host, phase, [host]);
+            for _ in 1..majority {
+                driver.repeat(|message| is_response(message, phase, host, host));
+            }
+            for _ in 0..majority {
+                driver.respond(host, phase, [host]);
+            }
+        }
+        driver.advance_all(1);
+    }
+}
+
+/// Host 0's clock is behind by the whole spread when its lease ends for the others, which give the
+/// next one to host 1.
+fn named_behind_the_others(driver: &mut Driver, duration: u64) {
+    let n = driver.cell.rules.n;
+    let spread = driver.cell.rules.spread;
+    driver.round(0, duration, 0..n);
+    driver.advance_all(duration);
+    for host in 1..n {
+        driver.advance_one(host, spread);
+    }
+    driver.round(1, duration, 1..n);
+}
+
+/// The responses of all others to host 0 are under way when it restarts, and answer it once more
+/// when it is back and host 1 holds the lease.
+fn answered_before_a_restart(driver: &mut Driver, duration: u64) {
+    let rules = driver.cell.rules;
+    let others = 1..rules.n;
+    driver.start(0, duration);
+    driver.request(0, Phase::Prepare, others.clone());
+    for host in others.clone() {
+        driver.repeat(|message| is_response(message, Phase::Prepare, host, 0));
+    }
+    driver.respond(0, Phase::Prepare, others.clone());
+    driver.request(0, Phase::Propose, others.clone());
+    driver.apply(Event::Restart { host: 0 });
+    driver.advance_all(rules.longest + rules.spread);
+    driver.round(1, duration, others.clone());
+    driver.start(0, duration);
+    driver.respond(0, Phase::Prepare, others.clone());
+    driver.respond(0, Phase::Propose, others);
+}

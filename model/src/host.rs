@@ -1,0 +1,411 @@
+//! One host as proposer, acceptor and learner: document 01's 'What each event does', host by host.
+//! A step that would send more messages than there is room for changes nothing.
+
+use crate::builds::Build;
+use crate::message::{Ballot, Body, Holder, Hosts, KeepersEnd, Lease, Message};
+use crate::refusal::{DURATION, FULL, SAME_TICK, WAITING};
+
+/// What every host of a cell goes by.
+#[derive(Clone, Copy, Debug)]
+pub struct Rules {
+    pub n: u8,
+    pub longest: u64,
+    pub spread: u64,
+    pub build: Build,
+}
+
+impl Rules {
+    /// 'A majority is floor(n / 2) + 1 hosts.'
+    pub fn majority(&self) -> u32 {
+        u32::from(self.n / 2) + 1
+    }
+}
+
+/// Who replied. Only the build that counts a repeated response twice has repeats.
+#[derive(Clone, Copy, Debug, Default)]
+pub struct Replies {
+    hosts: Hosts,
+    repeats: u32,
+}
+
+impl Replies {
+    /// The replies with one more, or none if it is 'from a host' already counted.
+    fn counting(self, sender: u8, build: Build) -> Option<Replies> {
+        if !self.hosts.has(sender) {
+            Some(Replies { hosts: self.hosts.with(sender), ..self })
+        } else if build.counts_a_repeated_response_twice {
+            Some(Replies { repeats: self.repeats + 1, ..self })
+        } else {
+            None
+        }
+    }
+
+    fn count(self) -> u32 {
+        self.hosts.size() + self.repeats
+    }
+}
+
+/// A round keeps, for its duration, the end that a lease of the host's own would have: 'ballot tick
+/// + duration + S', all three known at the start.
+#[derive(Clone, Copy, Debug)]
+pub enum Round {
+    Idle,
+    Asking { ballot: Ballot, own_end: KeepersEnd, replies: Replies, kept: Option<Lease> },
+    Proposing { ballot: Ballot, owner: u8, end: KeepersEnd, replies: Replies },
+}
+
+/// What a delivery came to, for the count of what a comparison has met.
+#[derive(Clone, Copy, Debug, PartialEq, Eq)]
+pub enum Case {
+    Waits,
+    PrepareNotAbove,
+    PromisedEmpty,
+    PromisedLease,
+    ResponseToNoRound,
+    ResponseRepeated,
+    ResponseExpired,
+    ResponseCounted,
+    ProposesOwn,
+    ProposesOwnAfterKept,
+    ProposesOwnLater,
+    ProposesOwnAsKept,
+    ProposesKept,
+    AskedTooLong,
+    ProposeExpired,
+    ProposeBelow,
+    Accepted,
+    AnswerToNoRound,
+    AnswerRepeated,
+    AnswerCounted,
+    ChosenTooLate,
+    ChosenNamed,
+    ChosenNotHigher,
+    LearnExpired,
+    LearnNamed,
+    LearnNotHigher,
+}
+
+pub const CASES: usize = Case::LearnNotHigher as usize + 1;
+
+impl Case {
+    pub const ALL: [Case; CASES] = [
+        Case::Waits,
+        Case::PrepareNotAbove,
+        Case::PromisedEmpty,
+        Case::PromisedLease,
+        Case::ResponseToNoRound,
+        Case::ResponseRepeated,
+        Case::ResponseExpired,
+        Case::ResponseCounted,
+        Case::ProposesOwn,
+        Case::ProposesOwnAfterKept,
+        Case::ProposesOwnLater,
+        Case::ProposesOwnAsKept,
+        Case::ProposesKept,
+        Case::AskedTooLong,
+        Case::ProposeExpired,
+        Case::ProposeBelow,
+        Case::Accepted,
+        Case::AnswerToNoRound,
+        Case::AnswerRepeated,
+        Case::AnswerCounted,
+        Case::ChosenTooLate,
+        Case::ChosenNamed,
+        Case::ChosenNotHigher,
+        Case::LearnExpired,
+        Case::LearnNamed,
+        Case::LearnNotHigher,
+    ];
+}
+
+/// One message to a set of receivers.
+#[derive(Clone, Copy, Debug)]
+pub struct Sending {
+    pub ballot: Ballot,
+    pub body: Body,
+    pub receivers: Hosts,
+}
+
+/// What a message did at its receiver, and what it sends.
+pub type Step = (Case, Option<Sending>);
+
+#[derive(Clone, Debug)]
+pub struct Host {
+    pub number: u8,
+    pub clock: u64,
+    pub wait_end: u64,
+    pub promised: Option<Ballot>,
+    pub accepted: Option<Lease>,
+    pub last_tick: Option<u64>,
+    pub round: Round,
+    pub named: Option<Holder>,
+}
+
+impl Host {
+    /// 'Every host waits as after a restart.'
+    pub fn new(rules: &Rules, number: u8, clock: u64) -> Host {
+        Host {
+            number,
+            clock,
+            wait_end: clock + rules.longest + rules.spread,
+            promised: None,
+            accepted: None,
+            last_tick: None,
+            round: Round::Idle,
+            named: None,
+        }
+    }
+
+    /// 'Everything but the clock is forgotten. The wait ends at clock + T + S.'
+    pub fn restart(&mut self, rules: &Rules) {
+        *self = Host::new(rules, self.number, self.clock);
+    }
+
+    pub fn waits(&self) -> bool {
+        self.clock < self.wait_end
+    }
+
+    /// 'A host whose clock moved then drops an accepted lease or named holder whose end is at or
+    /// below its clock.'
+    pub fn advance(&mut self, ticks: u64) {
+        self.clock += ticks;
+        if self.accepted.map_or(false, |lease| lease.end.has_come(self.clock)) {
+            self.accepted = None;
+        }
+        if self.named.map_or(false, |holder| holder.end.has_come(self.clock)) {
+            self.named = None;
+        }
+    }
+
+    /// The tick of the next ballot: the clock, or 10 if that is 'not above the last ballot's tick'.
+    fn ballot_tick(&self, build: Build) -> Result<u64, u8> {
+        match self.last_tick {
+            last if build.ballots_from_a_counter => Ok(last.map_or(0, |count| count + 1)),
+            Some(last) if self.clock <= last => Err(SAME_TICK),
+            _ => Ok(self.clock),
+        }
+    }
+
+    /// 'Start 5, 9, 11, 10, 13', of which 5 is the cell's.
+    pub fn start(&mut self, rules: &Rules, duration: u64, room: u32) -> Result<Sending, u8> {
+        if self.waits() {
+            return Err(WAITING);
+        }
+        if duration < 1 || duration > rules.longest - rules.spread {
+            return Err(DURATION);
+        }
+        let tick = self.ballot_tick(rules.build)?;
+        if room < u32::from(rules.n) {
+            return Err(FULL);
+        }
+        let ballot = Ballot { tick, host: self.number };
+        self.last_tick = Some(tick);
+        self.round = Round::Asking {
+            ballot,
+            own_end: KeepersEnd(self.clock + duration + rules.spread),
+            replies: Replies::default(),
+            kept: None,
+        };
+        let receivers = Hosts::all(rules.n);
+        Ok(Sending { ballot, body: Body::PrepareRequest, receivers })
+    }
+
+    /// 'A waiting host does nothing.' Else by the kind of message; 13 if `room` is too little.
+    pub fn receive(&mut self, rules: &Rules, message: &Message, room: u32) -> Result<Step, u8> {
+        if self.waits() {
+            return Ok((Case::Waits, None));
+        }
+        let (sender, ballot) = (message.sender, message.ballot);
+        match message.body {
+            Body::PrepareRequest => Ok(self.prepare_request(ballot)),
+            Body::PrepareResponse(lease) => {
+                self.prepare_response(rules, sender, ballot, lease, room)
+            }
+            Body::ProposeRequest { owner, end } => {
+                Ok(self.propose_request(rules, Lease { ballot, owner, end }))
+            }
+            Body::ProposeResponse => self.propose_response(rules, sender, ballot, room),
+            Body::Learn { owner, end } => Ok((self.learn(Holder { ballot, owner, end }), None)),
+        }
+    }
+
+    /// 'If nothing is promised or the ballot is above the promise, promise it and reply with the
+    /// accepted lease, or empty. Else nothing.'
+    fn prepare_request(&mut self, ballot: Ballot) -> Step {
+        if self.promised.map_or(false, |promised| ballot <= promised) {
+            return (Case::PrepareNotAbove, None);
+        }
+        self.promised = Some(ballot);
+        let case = match self.accepted {
+            Some(_) => Case::PromisedLease,
+            None => Case::PromisedEmpty,
+        };
+        (case, Some(reply(ballot, Body::PrepareResponse(self.accepted))))
+    }
+
+    fn prepare_response(
+        &mut self,
+        rules: &Rules,
+        sender: u8,
+        to: Ballot,
+        lease: Option<Lease>,
+        room: u32,
+    ) -> Result<Step, u8> {
+        let (own_end, replies, kept) = match self.round {
+            Round::Asking { ballot, own_end, replies, kept } if ballot == to => {
+                (own_end, replies, kept)
+            }
+            _ => return Ok((Case::ResponseToNoRound, None)),
+        };
+        let replies = match replies.counting(sender, rules.build) {
+            Some(replies) => replies,
+            None => return Ok((Case::ResponseRepeated, None)),
+        };
+        if lease.map_or(false, |lease| lease.end.has_come(self.clock)) {
+            return Ok((Case::ResponseExpired, None));
+        }
+        let kept = highest(kept, lease);
+        if replies.count() < rules.majority() {
+            self.round = Round::Asking { ballot: to, own_end, replies, kept };
+            return Ok((Case::ResponseCounted, None));
+        }
+        self.propose(rules, to, own_end, kept, room)
+    }
+
+    /// What a majority of prepare responses leads to. 'If the resulting end is at or below its
+    /// clock the round becomes idle; else it is proposing and sends to all n.'
+    fn propose(
+        &mut self,
+        rules: &Rules,
+        ballot: Ballot,
+        own_end: KeepersEnd,
+        kept: Option<Lease>,
+        room: u32,
+    ) -> Result<Step, u8> {
+        let (case, owner, end) = self.to_propose(own_end, kept);
+        if end.has_come(self.clock) {
+            self.round = Round::Idle;
+            return Ok((Case::AskedTooLong, None));
+        }
+        if room < u32::from(rules.n) {
+            return Err(FULL);
+        }
+        self.round = Round::Proposing { ballot, owner, end, replies: Replies::default() };
+        let body = Body::ProposeRequest { owner, end };
+        Ok((case, Some(Sending { ballot, body, receivers: Hosts::all(rules.n) })))
+    }
+
+    /// 'If no lease was kept, or its end has come, the lease is the host's own ... If the kept
+    /// lease is its own, the later of that end and the kept one. Else the kept lease unchanged.'
+    fn to_propose(&self, own_end: KeepersEnd, kept: Option<Lease>) -> (Case, u8, KeepersEnd) {
+        match kept {
+            None => (Case::ProposesOwn, self.number, own_end),
+            Some(lease) if lease.end.has_come(self.clock) => {
+                (Case::ProposesOwnAfterKept, self.number, own_end)
+            }
+            Some(lease) if lease.owner != self.number => {
+                (Case::ProposesKept, lease.owner, lease.end)
+            }
+            Some(lease) if lease.end < own_end => (Case::ProposesOwnLater, lease.owner, own_end),
+            Some(lease) => (Case::ProposesOwnAsKept, lease.owner, lease.end),
+        }
+    }
+
+    /// 'Nothing if its end is at or below the clock, or its ballot is below the promise. Else
+    /// promise that ballot, accept, reply.'
+    fn propose_request(&mut self, rules: &Rules, lease: Lease) -> Step {
+        if lease.end.has_come(self.clock) {
+            return (Case::ProposeExpired, None);
+        }
+        if self.promised.map_or(false, |promised| lease.ballot < promised) {
+            return (Case::ProposeBelow, None);
+        }
+        if !rules.build.accepts_without_raising_its_promise {
+            self.promised = Some(lease.ballot);
+        }
+        self.accepted = Some(lease);
+        (Case::Accepted, Some(reply(lease.ballot, Body::ProposeResponse)))
+    }
+
+    /// 'Count it. At a majority the round becomes idle; if the keepers' end is above clock + S, the
+    /// host names the owner and sends learn to the n - 1 others.'
+    fn propose_response(
+        &mut self,
+        rules: &Rules,
+        sender: u8,
+        to: Ballot,
+        room: u32,
+    ) -> Result<Step, u8> {
+        let (owner, end, replies) = match self.round {
+            Round::Proposing { ballot, owner, end, replies } if ballot == to => {
+                (owner, end, replies)
+            }
+            _ => return Ok((Case::AnswerToNoRound, None)),
+        };
+        let replies = match replies.counting(sender, rules.build) {
+            Some(replies) => replies,
+            None => return Ok((Case::AnswerRepeated, None)),
+        };
+        if replies.count() < rules.majority() {
+            self.round = Round::Proposing { ballot: to, owner, end, replies };
+            return Ok((Case::AnswerCounted, None));
+        }
+        self.choose(rules, Lease { ballot: to, owner, end }, room)
+    }
+
+    /// What a majority of propose responses leads to.
+    fn choose(&mut self, rules: &Rules, chosen: Lease, room: u32) -> Result<Step, u8> {
+        let end = match chosen.end.namable(self.clock, rules.spread, rules.build) {
+            Some(end) => end,
+            None => {
+                self.round = Round::Idle;
+                return Ok((Case::ChosenTooLate, None));
+            }
+        };
+        if room + 1 < u32::from(rules.n) {
+            return Err(FULL);
+        }
+        self.round = Round::Idle;
+        let (ballot, owner) = (chosen.ballot, chosen.owner);
+        let case = match self.name(Holder { ballot, owner, end }) {
+            true => Case::ChosenNamed,
+            false => Case::ChosenNotHigher,
+        };
+        let receivers = Hosts::all(rules.n).without(self.number);
+        Ok((case, Some(Sending { ballot, body: Body::Learn { owner, end }, receivers })))
+    }
+
+    /// 'Nothing if its end is at or below the clock. Else name the owner.'
+    fn learn(&mut self, holder: Holder) -> Case {
+        if holder.end.has_come(self.clock) {
+            Case::LearnExpired
+        } else if self.name(holder) {
+            Case::LearnNamed
+        } else {
+            Case::LearnNotHigher
+        }
+    }
+
+    /// 'Naming replaces a named holder only if the new ballot is higher.' Says whether it named.
+    fn name(&mut self, holder: Holder) -> bool {
+        if self.named.map_or(false, |named| holder.ballot <= named.ballot) {
+            return false;
+        }
+        self.named = Some(holder);
+        true
+    }
+}
+
+/// A reply goes to the ballot's host.
+fn reply(ballot: Ballot, body: Body) -> Sending {
+    Sending { ballot, body, receivers: Hosts::only(ballot.host) }
+}
+
+/// 'Keep the reply with the highest accepted ballot, the earlier one at a tie.'
+fn highest(kept: Option<Lease>, lease: Option<Lease>) -> Option<Lease> {
+    match (kept, lease) {
+        (Some(kept), Some(lease)) if lease.ballot > kept.ballot => Some(lease),
+        (Some(kept), _) => Some(kept),
+        (None, lease) => lease,
+    }
+}
