@@ -4,6 +4,7 @@ use message::KeepersEnd;
 use message::Message;
 use message::Sizes;
 
+// The cell that the samples are of.
 pub fn sizes() -> Sizes {
     Sizes { n: 3 }
 }

@@ -38,6 +38,7 @@ fn numbers(f: message::Numbers) {
     print::line_end();
 }
 
+// What a writing answered, and how many bytes it wrote.
 pub fn written(label: &[u8], answer: u8, len: usize) {
     print::word(label);
     print::word(b": answer");
@@ -68,6 +69,7 @@ pub fn frame(bytes: &[u8], len: usize) {
     print::line_end();
 }
 
+// The head of a kind's counts over all values of the length field.
 pub fn lengths_head(kind: u16) {
     print::word(b"length field of kind");
     print::number(kind as u64);

@@ -1,7 +1,6 @@
--- How long the parts of a listing's lines are at most, the walk over names, and the text of lines
--- in a row. Assumes nothing.
-use mathlib.Core.Path.{_≡_, refl, sym, ap, _∙_}
-use mathlib.Core.List.{List, [], _∷_, _++_, append-assoc}
+-- How long the parts of a listing's lines are at most, and the walk over names. Assumes nothing.
+use mathlib.Core.Path.{_≡_}
+use mathlib.Core.List.{List, [], _∷_, _++_}
 use Prim.Native.Nat.{ℕ, suc, _+_, _-_, _^_, _≤_, _<_}
 use native.Mathlib.Omega.{arith}
 use native.Mathlib.Nat.{lt-of-lt-of-le}
@@ -12,7 +11,7 @@ use Rattle.text.specs.Text.{decimal}
 use Rattle.text.proofs.Laws.{decimal-most}
 use Rattle.host.specs.declared.Host.{Host}
 use Rattle.places.specs.Places.{blankHost}
-use Rattle.lines.specs.Lines.{Line, lastOf, nameText, namesFrom, namesText, lineText, textOf}
+use Rattle.lines.specs.Lines.{lastOf, nameText, namesFrom, namesText}
 
 -- ---- how long numbers are
 
@@ -53,12 +52,3 @@ unfolding namesFrom namesText
 names-end hs n i h =
     let e : n - i ≡ 0 = omega arith in
     rw e
-
--- ---- lines in a row
-
-pub text-append : (a b : List Line) → textOf (a ++ b) ≡ textOf a ++ textOf b
-unfolding textOf
-text-append [] b = refl
-text-append (l ∷ a) b =
-    ap (λ (t : List ℕ). lineText l ++ t) (text-append a b)
-    ∙ sym (append-assoc (lineText l) (textOf a) (textOf b))
