@@ -2,26 +2,11 @@
 //! Without arguments it is a second bench: a run file from standard input, its listing to standard
 //! output.
 
-mod builds;
-mod cell;
-mod compare;
-mod coverage;
-mod damage;
-mod directed;
-mod driver;
-mod generate;
-mod host;
-mod listing;
-mod measure;
-mod message;
-mod random;
-mod record;
-mod refusal;
-mod wrong;
-
 use std::env;
 use std::io::{self, Read, Write};
 use std::process::ExitCode;
+
+use model::{builds, compare, listing, measure, wrong};
 
 const USAGE: &str = "\
 model < RUNFILE                      the listing of a run file

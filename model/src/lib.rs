@@ -1,0 +1,19 @@
+//! Document 01 written a second time, from its sentences alone: cells, hosts, run files and their
+//! listings, the wrong builds behind switches, and seeded run files.
+
+pub mod builds;
+pub mod cell;
+pub mod compare;
+pub mod coverage;
+pub mod damage;
+pub mod directed;
+pub mod driver;
+pub mod generate;
+pub mod host;
+pub mod listing;
+pub mod measure;
+pub mod message;
+pub mod random;
+pub mod record;
+pub mod refusal;
+pub mod wrong;
