@@ -2,29 +2,31 @@
 use mathlib.Core.Path.{_≡_, refl, sym, ap, _∙_}
 use mathlib.Core.Bool.{Bool, true, false, cond}
 use mathlib.Core.List.{List, [], _∷_, _++_}
-use Prim.Native.Nat.{ℕ, suc, _+_, _-_, _*_, _≤_, _<_, _^_}
+use Prim.Native.Nat.{ℕ, suc, _+_, _*_, _≤_, _<_, _^_}
 use native.Mathlib.Nat.{add-mul, one-mul, zero-mul}
 use native.Mathlib.Omega.{arith}
 use lib.Count.{ones}
 use lib.ListN.{length, length-append}
 use lib.Dec.{leb, eqb}
-use borrow.Author.Tests.{leb-true, ltb-true, le-leb}
+use borrow.Author.Tests.{leb-true, ltb-true, le-leb, lt-leb, ne-eqb}
 use Rattle.base.specs.Refusals.{unless, firstOf, refusedCell, refusedRoom}
 use Rattle.base.specs.Lists.{allOf}
 use Rattle.base.proofs.Tests.{both, first-passed, unless-passed, first-same, first-append}
-use Rattle.quorum.specs.Sets.{mostHosts, isIn, membersFrom, members}
-use Rattle.quorum.proofs.Laws.{members-step, members-length}
+use Rattle.quorum.specs.Sets.{mostHosts, members}
+use Rattle.quorum.proofs.Laws.{members-length}
 use Rattle.message.specs.declared.Sizes.{Sizes}
 use Rattle.message.specs.declared.Numbers.{Numbers}
 use Rattle.message.specs.declared.Message.{Message}
-use Rattle.message.specs.Message.{knownKind, numbersOf, withTarget}
+use Rattle.message.specs.Message.{knownKind, numbersOf, messageOf, withTarget}
 use Rattle.message.specs.Faults.{sizesFit, faultOf, faultTo}
 use Rattle.message.proofs.Laws.{passed-to}
 use Rattle.layout.specs.Layout.{kindLength, bytesOf, numbersIn}
 use Rattle.layout.proofs.Laws.{bytes-length}
-use Rattle.frame.specs.Reading.{toldLength, toldKind, readAnswer}
+use Rattle.frame.specs.declared.Found.the-variants.{Frame, Fault}
+use Rattle.frame.specs.declared.Reading.the-variants.{Whole, Refused}
+use Rattle.frame.specs.Reading.{toldLength, toldKind, readAnswer, readOf}
 use Rattle.frame.specs.Writing.{frameOf, writeAnswer, framesIn, framesOf, answerTo}
-use Rattle.frame.specs.Parts.{answerOf, partOf}
+use Rattle.frame.specs.Parts.{foundOf, readingOf, answerOf}
 
 -- ---- reading
 
@@ -36,7 +38,41 @@ pub read-whole : (z : Sizes) (s : List ℕ) → sizesFit z ≡ true → leb 4 (l
 unfolding readAnswer firstOf allOf faultOf
 read-whole z s c l k e r = rw (c, l, k, e, r)
 
+-- reading makes the message of what is found
+pub found-read : (z : Sizes) (s : List ℕ) → readOf z s ≡ readingOf (foundOf z s)
+unfolding readOf foundOf
+found-read z s = go (eqb (readAnswer z s) 0)
+  where
+    go : (b : Bool) →
+        let f = numbersIn s (toldKind s) in
+        let l = kindLength (toldKind s) in
+        let a = readAnswer z s in
+        cond b (Whole (messageOf f) l) (Refused a) ≡ readingOf (cond b (Frame f l) (Fault a))
+    go true = refl
+    go false = refl
+
 -- ---- writing
+
+-- each refusal in its turn, and none
+pub answer-cell : (z : Sizes) (bad total room : ℕ) → sizesFit z ≡ false
+    → answerOf z bad total room ≡ refusedCell
+unfolding answerOf firstOf
+answer-cell z bad total room c = rw c
+
+pub answer-bad : (z : Sizes) (bad total room : ℕ) → sizesFit z ≡ true → (bad ≡ 0 → ⊥)
+    → answerOf z bad total room ≡ bad
+unfolding answerOf firstOf
+answer-bad z bad total room c e = rw (c, ne-eqb bad 0 e)
+
+pub answer-room : (z : Sizes) (bad total room : ℕ) → sizesFit z ≡ true → bad ≡ 0 → room < total
+    → answerOf z bad total room ≡ refusedRoom
+unfolding answerOf firstOf
+answer-room z bad total room c e l = rw (c, e, lt-leb total room l)
+
+pub answer-done : (z : Sizes) (bad total room : ℕ) → sizesFit z ≡ true → bad ≡ 0 → total ≤ room
+    → answerOf z bad total room ≡ 0
+unfolding answerOf firstOf
+answer-done z bad total room c e l = rw (c, e, le-leb total room l)
 
 -- what the code finds is the answer of the list of refusals
 answer-found : (z : Sizes) (ks bytes : List ℕ) (total room : ℕ)
@@ -96,18 +132,6 @@ frames-length f [] = sym (zero-mul (kindLength (f .kind)))
 frames-length f (h ∷ hs) =
     let e : suc (length hs) ≡ 1 + length hs = omega arith in
     rw (length-append, bytes-length (withTarget f h), frames-length f hs, e, add-mul, one-mul)
-
-pub frames-step : (f : Numbers) (set h n : ℕ) → h < n
-    → framesIn f (membersFrom set h (n - h)) ≡ partOf (isIn set h) (withTarget f h)
-    ++ framesIn f (membersFrom set (h + 1) (n - (h + 1)))
-unfolding framesIn
-frames-step f set h n k =
-    rw (members-step set h n k) (go (isIn set h) (membersFrom set (h + 1) (n - (h + 1))))
-  where
-    go : (b : Bool) (hs : List ℕ)
-        → framesIn f (cond b (h ∷ hs) hs) ≡ cond b (bytesOf (withTarget f h)) [] ++ framesIn f hs
-    go true hs = refl
-    go false hs = refl
 
 -- as many frames as the set has hosts
 pub length-to : (z : Sizes) (m : Message) (set : ℕ) → faultTo z (numbersOf m) set ≡ 0

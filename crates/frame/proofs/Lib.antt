@@ -1,5 +1,6 @@
 -- Laws of frames: their answers, reading back what was written, sets of receivers, the claims.
 pub mod Answers
+pub mod Walk
 pub mod Round
 pub mod Only
 pub mod Sets

@@ -19,9 +19,11 @@ use Rattle.message.specs.Faults.{sizesFit, faultOf}
 use Rattle.message.proofs.Laws.{message-numbers}
 use Rattle.layout.specs.Layout.{Fit, kindLength, numbersIn}
 use Rattle.layout.proofs.Laws.{message-back, bytes-back}
+use Rattle.frame.specs.declared.Found.the-variants.{Frame, Fault}
 use Rattle.frame.specs.declared.Reading.the-variants.{Whole, Refused}
 use Rattle.frame.specs.Reading.{toldLength, toldKind, readAnswer, readOf}
 use Rattle.frame.specs.Writing.{frameOf, writeAnswer}
+use Rattle.frame.specs.Parts.{foundOf}
 use Rattle.frame.proofs.Answers.{read-whole, write-free}
 use Rattle.frame.proofs.Round.{kind-back, frame-length, frame-back}
 
@@ -60,6 +62,20 @@ tested z s e =
     unless-passed (eqb (toldLength s) (kindLength (toldKind s))) refusedLength _ refl (p3 .1) in
     let p5 = unless-passed (leb (kindLength (toldKind s)) (length s)) refusedCut _ refl (p4 .1) in
     record { cell = p1 .0; fore = p2 .0; kind = p3 .0; told = p4 .0; room = p5 .0 }
+
+-- numbers that are found are those of a message
+pub found-numbers : (z : Sizes) (s : List ℕ) (f : Numbers) (l : ℕ) → foundOf z s ≡ Frame f l
+    → numbersOf (messageOf f) ≡ f
+unfolding foundOf
+found-numbers z s f l = go (readAnswer z s) (eqb (readAnswer z s) 0) refl refl
+  where
+    go : (a : ℕ) (e : Bool) → readAnswer z s ≡ a → eqb a 0 ≡ e
+        → cond e (Frame (numbersIn s (toldKind s)) (kindLength (toldKind s))) (Fault a) ≡ Frame f l
+        → numbersOf (messageOf f) ≡ f
+    go a true p q r =
+        let same : numbersIn s (toldKind s) ≡ f = cc in
+        rw (← same) (message-back s (toldKind s) (tested z s (p ∙ eqb-true a 0 q) .kind))
+    go a false p q r = let absent : _≡_ {A = ℕ} 0 1 = cc in absurd (omega arith)
 
 -- bytes that are read as a message begin with the frame of that message, byte for byte
 pub read-only : (s : List ℕ) → ((i : ℕ) → getD s i 0 < 256) → (z : Sizes) (m : Message) (l : ℕ)

@@ -6,13 +6,12 @@ ghost use lib.ListN.{length};
 ghost use lib.Seq.{sets};
 ghost use lib.Count.{ones};
 ghost use Rattle.quorum.specs.Sets.{members};
-ghost use Rattle.message.specs.Message.{messageOf};
 ghost use Rattle.message.specs.Faults.{faultOf};
 ghost use Rattle.layout.specs.Parts.{mostLength, Room};
-ghost use Rattle.frame.specs.Reading.{readWith, readOf, numberOf, lengthOf};
+ghost use Rattle.frame.specs.Reading.{readOf, numberOf, lengthOf};
 ghost use Rattle.frame.specs.Writing.{writtenOf, afterWrite};
 ghost use Rattle.frame.specs.Writing.{framesIn, writtenTo, afterWriteTo};
-ghost use Rattle.frame.specs.Parts.{answerOf, partOf};
+ghost use Rattle.frame.specs.Parts.{foundWith, foundOf, refusedWith};
 use base::DONE;
 use base::REFUSED_CELL;
 use base::REFUSED_CUT;
@@ -51,41 +50,57 @@ impl Reading {
     }
 }
 
-// The message that numbers are of, with its frame's length, unless something in it is refused.
-fn read_numbers(z: Sizes, f: Numbers, len: usize) -> Reading
-    ensures { λ r. ⌜ r ≡ readWith (faultOf z f) (messageOf f) len ⌝ }
+// What is found in lent bytes: a frame's numbers with its length, or the number of the refusal.
+pub enum Found {
+    Frame(Numbers, usize),
+    Fault(u8),
+}
+
+// Numbers with their frame's length, unless something in them is refused.
+fn read_numbers(z: Sizes, f: Numbers, len: usize) -> Found
+    ensures { λ r. ⌜ r ≡ foundWith (faultOf z f) f len ⌝ }
 {
     let bad = message::fault(z, f);
     if bad == DONE {
-        Reading::Whole(message::message_of(f), len)
+        Found::Frame(f, len)
     } else {
-        Reading::Refused(bad)
+        Found::Fault(bad)
     }
 }
 
-// The message whose frame s begins with, and the frame's length; bytes after it are not looked at.
-pub fn read(z: Sizes, s: &[u8]) -> Reading
-    ensures { λ r. ⌜ r ≡ readOf z (now (s .entry)) ⌝ }
+// The numbers of the frame that s begins with, and its length; bytes after it are not looked at.
+pub fn find(z: Sizes, s: &[u8]) -> Found
+    ensures { λ r. ⌜ r ≡ foundOf z (now (s .entry)) ⌝ }
 {
     if !message::sizes_fit(z) {
-        return Reading::Refused(REFUSED_CELL);
+        return Found::Fault(REFUSED_CELL);
     }
     if s.len() < layout::FORE_LENGTH {
-        return Reading::Refused(REFUSED_CUT);
+        return Found::Fault(REFUSED_CUT);
     }
     let kind = wire::get(s, layout::KIND_AT, 2) as u16;
     if !message::known_kind(kind) {
-        return Reading::Refused(REFUSED_KIND);
+        return Found::Fault(REFUSED_KIND);
     }
     let len = layout::kind_length(kind);
     let told = wire::get(s, layout::LENGTH_AT, 2);
     if told != len as u64 {
-        return Reading::Refused(REFUSED_LENGTH);
+        return Found::Fault(REFUSED_LENGTH);
     }
     if s.len() < len {
-        return Reading::Refused(REFUSED_CUT);
+        return Found::Fault(REFUSED_CUT);
     }
     read_numbers(z, layout::numbers_at(s, kind), len)
+}
+
+// The message whose frame s begins with, and the frame's length.
+pub fn read(z: Sizes, s: &[u8]) -> Reading
+    ensures { λ r. ⌜ r ≡ readOf z (now (s .entry)) ⌝ }
+{
+    match find(z, s) {
+        Found::Frame(f, len) => Reading::Whole(message::message_of(f), len),
+        Found::Fault(k) => Reading::Refused(k),
+    }
 }
 
 // The answer's number, and how many bytes were written.
@@ -94,17 +109,11 @@ pub struct Written {
     pub len: usize,
 }
 
-// The answer of writing: 1, then what is refused in the message, then 8.
-fn answer_of(z: Sizes, bad: u8, total: usize, room: usize) -> u8
-    ensures { λ r. ⌜ r ≡ answerOf z bad total room ⌝ }
+// What writing gives where it is refused.
+fn refused(answer: u8) -> Written
+    ensures { λ r. ⌜ r ≡ refusedWith answer ⌝ }
 {
-    if !message::sizes_fit(z) {
-        return REFUSED_CELL;
-    }
-    if bad != DONE {
-        return bad;
-    }
-    if total <= room { DONE } else { REFUSED_ROOM }
+    Written { answer, len: 0 }
 }
 
 // Writes the frame of a message at the start of out, or leaves out as it is.
@@ -114,31 +123,22 @@ pub fn write(z: Sizes, m: Message, out: &mut [u8]) -> Written
 {
     let f = message::numbers_of(m);
     let len = layout::kind_length(f.kind);
+    if !message::sizes_fit(z) {
+        return refused(REFUSED_CELL);
+    }
     let bad = message::fault(z, f);
-    let answer = answer_of(z, bad, len, out.len());
-    if answer != DONE {
-        return Written { answer, len: 0 };
+    if bad != DONE {
+        return refused(bad);
+    }
+    if out.len() < len {
+        return refused(REFUSED_ROOM);
     }
     layout::put_numbers(out, 0, f, len);
-    Written { answer, len }
+    Written { answer: DONE, len }
 }
 
-// Writes one frame at `at`, or none, and gives where the next one goes.
-fn put_if(out: &mut [u8], at: usize, f: Numbers, len: usize, on: bool) -> usize
-    requires { ⌜ Room f len (at + length (partOf on f)) (now out) ⌝ }
-    ensures { λ r. ⌜ (r ≡ at + length (partOf on f))
-        × (now (out .exit) ≡ sets (now (out .entry)) at (partOf on f)) ⌝ }
-{
-    if on {
-        layout::put_numbers(out, at, f, len);
-        at + len
-    } else {
-        at
-    }
-}
-
-// Writes the frames to the hosts of a set end to end at the start of out. The set is halved until
-// no host is left.
+// Writes the frames to the hosts of a set end to end at the start of out. The set is shifted down
+// to its next host until none is left.
 fn put_set(out: &mut [u8], f: Numbers, len: usize, set: u16)
     requires { ⌜ Room f len (length (framesIn f (members 16 set))) (now out) ⌝ }
     ensures { λ _. ⌜ now (out .exit) ≡ sets (now (out .entry)) 0 (framesIn f (members 16 set)) ⌝ }
@@ -147,7 +147,11 @@ fn put_set(out: &mut [u8], f: Numbers, len: usize, set: u16)
     let mut at: usize = 0;
     let mut h: u8 = 0;
     while rest != 0 {
-        at = put_if(out, at, message::with_target(f, h), len, rest % 2 == 1);
+        let skipped = u16::trailing_zeros(rest);
+        rest = rest >> skipped;
+        h = h + skipped as u8;
+        layout::put_numbers(out, at, message::with_target(f, h), len);
+        at = at + len;
         rest = rest / 2;
         h = h + 1;
     }
@@ -170,11 +174,19 @@ pub fn write_to(z: Sizes, m: Message, set: u16, out: &mut [u8]) -> Written
     let f = message::numbers_of(m);
     let len = layout::kind_length(f.kind);
     let total = total_of(set, len);
+    if !message::sizes_fit(z) {
+        return refused(REFUSED_CELL);
+    }
     let bad = message::fault_to(z, f, set);
-    let answer = answer_of(z, bad, total, out.len());
-    if answer != DONE {
-        return Written { answer, len: 0 };
+    if bad != DONE {
+        return refused(bad);
+    }
+    if out.len() < total {
+        return refused(REFUSED_ROOM);
     }
     put_set(out, f, len, set);
-    Written { answer, len: total }
+    Written {
+        answer: DONE,
+        len: total,
+    }
 }

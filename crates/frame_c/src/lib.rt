@@ -11,7 +11,7 @@ ghost use Rattle.frame_c.specs.Parts.{kindAnswer};
 use base::DONE;
 use base::REFUSED_CELL;
 use base::REFUSED_KIND;
-use frame::Reading;
+use frame::Found;
 use frame::Written;
 use message::Ballot;
 use message::HoldersEnd;
@@ -46,9 +46,8 @@ pub extern "C" fn lease_frame_read(
         × ((now (numbers .exit) ≡ numbersAfter found (now (numbers .entry)))
         × (now (len .exit) ≡ lengthOf found)) ⌝ }
 {
-    match frame::read(Sizes { n }, bytes) {
-        Reading::Whole(m, l) => {
-            let f = message::numbers_of(m);
+    match frame::find(Sizes { n }, bytes) {
+        Found::Frame(f, l) => {
             *numbers = [
                 f.kind as u64,
                 f.sender as u64,
@@ -63,7 +62,7 @@ pub extern "C" fn lease_frame_read(
             *len = l;
             DONE
         }
-        Reading::Refused(k) => {
+        Found::Fault(k) => {
             *len = 0;
             k
         }

@@ -2,7 +2,7 @@
 use mathlib.Core.Path.{_≡_, refl, sym, ap, _∙_}
 use mathlib.Core.Bool.{Bool, true, false, cond}
 use mathlib.Core.List.{List, [], _∷_, _++_, map}
-use Prim.Native.Nat.{ℕ, _≤_, _<_}
+use Prim.Native.Nat.{ℕ, _+_, _≤_, _<_}
 use native.Mathlib.Omega.{arith}
 use lib.ListN.{length, getD, take, length-map}
 use lib.Dec.{lit<, lit≤, eqb}
@@ -20,8 +20,8 @@ use Rattle.message.specs.Faults.{acceptedHost, owner, keepersEnd, holdersEnd}
 use Rattle.message.proofs.Laws.{by-kind}
 use Rattle.layout.specs.Layout.{Fit, widthOf, common, moreOf, fieldsOf, widths, kindLength}
 use Rattle.layout.specs.Layout.{offsetIn, lengthOffset, kindOffset, foreLength}
-use Rattle.layout.specs.Layout.{valueOf, bytesOf, valueIn}
-use Rattle.layout.specs.Parts.{ballotOffset, headLength, mostLength}
+use Rattle.layout.specs.Layout.{valueOf, bytesIn, bytesOf, valueIn}
+use Rattle.layout.specs.Parts.{ballotOffset, headLength, mostLength, valueEnd}
 use Rattle.layout.specs.Layout.{numbersFrom, numbersIn}
 
 -- ---- lengths
@@ -36,20 +36,63 @@ length-most =
     by-kind (λ (k : ℕ). kindLength k ≤ mostLength) (lit≤ tt) (lit≤ tt) (lit≤ tt) (lit≤ tt) (lit≤ tt)
     (lit≤ tt)
 
+-- what follows the head, by the three tests of the kind
+abbrev moreBy : Bool → Bool → Bool → List Field
+moreBy a b c =
+    cond a (acceptedTick ∷ acceptedHost ∷ owner ∷ keepersEnd ∷ [])
+    (cond b (owner ∷ keepersEnd ∷ []) (cond c (owner ∷ holdersEnd ∷ []) []))
+
+abbrev lengthBy : Bool → Bool → Bool → ℕ
+lengthBy a b c = total (widths (common ++ moreBy a b c))
+
 -- a frame that is no longer than its head has no more fields
 pub no-more : (k : ℕ) → kindLength k ≡ headLength → moreOf k ≡ []
 unfolding kindLength moreOf total
 no-more k = go (eqb k prepareResponseLease) (eqb k proposeRequest) (eqb k learn)
   where
-    go : (a b c : Bool) →
-        let fs =
-        cond a (acceptedTick ∷ acceptedHost ∷ owner ∷ keepersEnd ∷ [])
-        (cond b (owner ∷ keepersEnd ∷ []) (cond c (owner ∷ holdersEnd ∷ []) [])) in
-        total (widths (common ++ fs)) ≡ headLength → fs ≡ []
+    go : (a b c : Bool) → lengthBy a b c ≡ headLength → moreBy a b c ≡ []
     go true b c e = absurd (omega arith)
     go false true c e = absurd (omega arith)
     go false false true e = absurd (omega arith)
     go false false false e = refl
+
+-- the longest frames are those of a response with a lease
+pub lease-more : (k : ℕ) → kindLength k ≡ mostLength → moreOf k ≡ moreOf prepareResponseLease
+unfolding kindLength moreOf total
+lease-more k = go (eqb k prepareResponseLease) (eqb k proposeRequest) (eqb k learn)
+  where
+    go : (a b c : Bool) → lengthBy a b c ≡ mostLength → moreBy a b c ≡ moreBy true false false
+    go true b c e = refl
+    go false true c e = absurd (omega arith)
+    go false false true e = absurd (omega arith)
+    go false false false e = absurd (omega arith)
+
+-- a frame that is longer than its head has room for an owner and an end behind it
+pub longer : (k : ℕ) → (kindLength k ≡ headLength → ⊥) → headLength + 9 ≤ kindLength k
+unfolding kindLength moreOf total
+longer k = go (eqb k prepareResponseLease) (eqb k proposeRequest) (eqb k learn)
+  where
+    go : (a b c : Bool) → (lengthBy a b c ≡ headLength → ⊥) → headLength + 9 ≤ lengthBy a b c
+    go true b c h = omega arith
+    go false true c h = omega arith
+    go false false true h = omega arith
+    go false false false h = absurd (h refl)
+
+-- any other frame has an owner and an end
+pub value-more : (f : Numbers) → (kindLength (f .kind) ≡ headLength → ⊥)
+    → (kindLength (f .kind) ≡ mostLength → ⊥)
+    → bytesIn f (moreOf (f .kind)) ≡ packed (1 ∷ 8 ∷ []) (f .owner ∷ valueEnd f ∷ [])
+unfolding kindLength moreOf total valueEnd
+value-more f =
+    go (eqb (f .kind) prepareResponseLease) (eqb (f .kind) proposeRequest) (eqb (f .kind) learn)
+  where
+    go : (a b c : Bool) → (lengthBy a b c ≡ headLength → ⊥) → (lengthBy a b c ≡ mostLength → ⊥)
+        → bytesIn f (moreBy a b c)
+        ≡ packed (1 ∷ 8 ∷ []) (f .owner ∷ cond b (f .keepers .0) (f .holders .0) ∷ [])
+    go true b c h m = absurd (m refl)
+    go false true c h m = refl
+    go false false true h m = refl
+    go false false false h m = absurd (h refl)
 
 -- a frame is as long as its kind's are
 pub bytes-length : (f : Numbers) → length (bytesOf f) ≡ kindLength (f .kind)

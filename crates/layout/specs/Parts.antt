@@ -1,14 +1,16 @@
 -- Lengths and offsets that the code has by name, the groups of fields that it reads together, and
 -- the room that it writes into. Assumes nothing.
 use mathlib.Core.Path.{_≡_}
+use mathlib.Core.Bool.{cond}
 use mathlib.Core.List.{List}
 use Prim.Native.Nat.{ℕ, _≤_}
 use lib.ListN.{length}
+use lib.Dec.{eqb}
 use Rattle.wire.specs.Wire.{numberAt}
 use Rattle.message.specs.declared.Head.{Head}
 use Rattle.message.specs.declared.Lease.{Lease}
 use Rattle.message.specs.declared.Numbers.{Numbers}
-use Rattle.message.specs.Message.{prepareRequest, prepareResponseLease, headWith}
+use Rattle.message.specs.Message.{prepareRequest, prepareResponseLease, proposeRequest, headWith}
 use Rattle.message.specs.Faults.{Field, sender, target, ballotTick, ballotHost, acceptedTick}
 use Rattle.message.specs.Faults.{acceptedHost, owner, keepersEnd}
 use Rattle.layout.specs.Layout.{widthOf, kindLength, offsetOf}
@@ -42,6 +44,10 @@ leaseAt s =
       owner = at owner;
       end = record { 0 = at keepersEnd };
     }
+
+-- the end in a proposal or a learn message
+unfoldable pub valueEnd : Numbers → ℕ
+valueEnd f = cond (eqb (f .kind) proposeRequest) (f .keepers .0) (f .holders .0)
 
 -- len is the length of a frame of these numbers, and `out` has this many bytes
 pub record Room (f : Numbers) (len bytes : ℕ) (out : List ℕ) : Type 0 where

@@ -9,7 +9,8 @@ ghost use Rattle.wire.specs.Wire.{packed};
 ghost use Rattle.message.specs.Message.{prepareResponseLease};
 ghost use Rattle.layout.specs.Layout.{moreOf, kindLength, bytesIn};
 ghost use Rattle.layout.specs.Layout.{bytesOf, numbersIn};
-ghost use Rattle.layout.specs.Parts.{ballotOffset, headLength, headAt, leaseAt, Room};
+ghost use Rattle.layout.specs.Parts.{ballotOffset, headLength, headAt, leaseAt, valueEnd};
+ghost use Rattle.layout.specs.Parts.{Room};
 use message::Ballot;
 use message::Head;
 use message::HoldersEnd;
@@ -162,26 +163,33 @@ fn put_value(out: &mut [u8], at: usize, owner: u8, end: u64)
     wire::put(out, at + 1, 8, end);
 }
 
-// Writes the fields after those that every frame has.
-fn put_more(out: &mut [u8], f: Numbers)
-    requires { ⌜ kindLength (f .kind) ≤ length (now out) ⌝ }
+// The end in a proposal or a learn message.
+fn value_end(f: Numbers) -> u64
+    ensures { λ r. ⌜ r ≡ valueEnd f ⌝ }
+{
+    if f.kind == PROPOSE_REQUEST {
+        f.keepers.0
+    } else {
+        f.holders.0
+    }
+}
+
+// Writes the fields after those that every frame has; the frame's length tells which they are.
+fn put_more(out: &mut [u8], f: Numbers, len: usize)
+    requires { ⌜ Room f len len (now out) ⌝ }
     ensures { λ _. ⌜ now (out .exit)
         ≡ sets (now (out .entry)) headLength (bytesIn f (moreOf (f .kind))) ⌝ }
 {
-    let kind = f.kind;
-    if kind == PREPARE_RESPONSE_LEASE {
+    if len == HEAD_LENGTH {
+        return;
+    }
+    if len == LEASE_LENGTH {
         let accepted = f.accepted;
         put_ballot(out, ACCEPTED_AT, accepted);
         put_value(out, LEASE_OWNER_AT, f.owner, f.keepers.0);
         return;
     }
-    if kind == PROPOSE_REQUEST {
-        put_value(out, OWNER_AT, f.owner, f.keepers.0);
-        return;
-    }
-    if kind == LEARN {
-        put_value(out, OWNER_AT, f.owner, f.holders.0);
-    }
+    put_value(out, OWNER_AT, f.owner, value_end(f));
 }
 
 // Writes the frame of a message's numbers at the start of out; len is its kind's.
@@ -192,11 +200,7 @@ fn put_first(out: &mut [u8], f: Numbers, len: usize)
     let ballot = f.ballot;
     put_route(out, len, f.kind, f.sender, f.target);
     put_ballot(out, BALLOT_AT, ballot);
-    // Three kinds are no more than their head.
-    if len == HEAD_LENGTH {
-        return;
-    }
-    put_more(out, f);
+    put_more(out, f, len);
 }
 
 // Writes the frame of a message's numbers at `at`; len is its kind's.

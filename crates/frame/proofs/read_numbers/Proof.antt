@@ -1,4 +1,4 @@
--- `read_numbers`: the message where nothing is refused in its numbers, else the refusal's number.
+-- `read_numbers`: the numbers where nothing is refused in them, else the refusal's number.
 use borrow.Author.Tests.{eq-eqb, ne-eqb}
 use borrow.Author.Needs.{needs}
 use Rattle.frame.proofs.read_numbers.Statement.{statement}
@@ -9,11 +9,5 @@ read-numbers-spec =
     tie.close
     (tie.spec
     (λ c κs. search needs)
-    (λ c κs. search needs)
-    (λ c.
-    rw (
-      c .message-of .ensures,
-      ← c .before .before .fault .ensures,
-      eq-eqb _ _ (c .before .if1 .taken),
-    ))
+    (λ c. rw (← c .before .fault .ensures, eq-eqb _ _ (c .if1 .taken)))
     (λ c. rw (← c .before .fault .ensures, ne-eqb _ _ (c .if1 .left))))

@@ -1,42 +1,73 @@
--- `write_to` gives `writtenTo` and leaves `afterWriteTo`: the answer found is the definition's, and
--- where that is 0 the frames to the set's hosts are put at the front.
+-- `write_to` gives `writtenTo` and leaves `afterWriteTo`: each refusal in its order, and where it
+-- meets none the frames to the set's hosts are put at the front.
 use Prim.Native.Nat.{ℕ, _*_, _≤_, _^_}
 use mathlib.Core.Path.{_≡_, sym, _∙_}
+use mathlib.Core.Bool.{true}
 use native.Mathlib.Omega.{arith}
 use lib.Count.{ones}
 use lib.ListN.{length}
 use borrow.Author.Needs.{needs}
-use borrow.Author.Tests.{ne-eqb, ltb-true}
+use borrow.Author.Tests.{ne-eqb, ltb-true, not-true, not-false}
+use Rattle.base.specs.Refusals.{refusedCell}
+use Rattle.base.proofs.Tests.{told}
 use Rattle.base.proofs.Stores.{sets-front}
 use Rattle.quorum.specs.Sets.{members}
 use Rattle.quorum.proofs.Laws.{members-below}
 use Rattle.message.specs.declared.Sizes.{Sizes}
 use Rattle.message.specs.declared.Message.{Message}
 use Rattle.message.specs.Message.{numbersOf}
+use Rattle.message.specs.Faults.{sizesFit}
 use Rattle.message.proofs.Laws.{kind-known, passed-to}
 use Rattle.layout.specs.Layout.{kindLength}
 use Rattle.layout.proofs.Laws.{length-most}
 use Rattle.frame.specs.Writing.{framesOf, answerTo, writtenTo, afterWriteTo}
+use Rattle.frame.specs.Parts.{answerOf}
+use Rattle.frame.proofs.Answers.{answer-cell, answer-bad, answer-room, answer-done}
 use Rattle.frame.proofs.Answers.{answer-free, cell-most, length-to, found-to}
 use Rattle.frame.proofs.write_to.Statement.{statement}
 use Rattle.frame.proofs.write_to.Tie as tie
 
--- the answer that was found is the definition's
-found : (c : tie.After-answer-of) →
-    let measured = c .before .before .before in
-    let a = measured .before .before .before .args in
-    answerTo (a .z) (a .m) (a .set) (length (a .out .now)) ≡ c .answer-of .result
+-- the cell does not fit, or does
+unfit : (c : tie.Then1) →
+    let a = c .before .before .before .before .before .before .args in
+    answerTo (a .z) (a .m) (a .set) (length (a .out .now)) ≡ refusedCell
+unfit c =
+    let k = c .before .sizes-fit in
+    sym (found-to _ _ _ _)
+    ∙ answer-cell _ _ _ _ (told (k .ensures) (not-true (k .result) (c .if1 .taken)))
+
+fits : (c : tie.Else1) →
+    let a = c .before .before .before .before .before .before .args in
+    sizesFit (a .z) ≡ true
+fits c =
+    let k = c .before .sizes-fit in
+    told (k .ensures) (not-false (k .result) (c .if1 .left))
+
+-- the definition's answer, from what was found
+found : (c : tie.After-fault-to) →
+    let summed = c .before .before .before in
+    let a = summed .before .before .before .before .args in
+    let room = length (a .out .now) in
+    answerTo (a .z) (a .m) (a .set) room
+    ≡ answerOf (a .z) (c .fault-to .result) (summed .total-of .result) room
 found c =
-    let summed = c .before .before in
+    let summed = c .before .before .before in
     let measured = summed .before in
     rw (
-      c .answer-of .ensures,
-      c .before .fault-to .ensures,
+      c .fault-to .ensures,
       summed .total-of .ensures,
       measured .kind-length .ensures,
       measured .before .numbers-of .ensures,
     )
     (sym (found-to _ _ _ _))
+
+-- where all tests are passed, the answer is 0
+none : (c : tie.Else3) →
+    let a = c .before .before .before .before .before .before .before .before .before .args in
+    answerTo (a .z) (a .m) (a .set) (length (a .out .now)) ≡ 0
+none c =
+    let k = c .before .before in
+    found k ∙ answer-done _ _ _ _ (fits (k .before)) (c .before .if2 .left) (c .if3 .left)
 
 -- where nothing is refused: the frames' length is what was computed, they fit into the lent bytes,
 -- and the set's hosts below 16 are those below n
@@ -57,20 +88,19 @@ passed-of z m set room e =
       hosts = members-below set (z .n) 16 in-n (omega (arith, cell-most z (k .cell)));
     }
 
-passed : (c : tie.Else1) →
-    let summed = c .before .before .before in
-    let numbered = summed .before .before in
-    let a = numbered .before .before .args in
+passed : (c : tie.Else3) →
+    let summed = c .before .before .before .before .before in
+    let a = summed .before .before .before .before .args in
     Passed (a .z) (a .m) (a .set) (summed .total-of .result) (length (a .out .now))
 passed c =
-    let summed = c .before .before .before in
+    let summed = c .before .before .before .before .before in
     let measured = summed .before in
     rw (
       summed .total-of .ensures,
       measured .kind-length .ensures,
       measured .before .numbers-of .ensures,
     )
-    (passed-of _ _ _ _ (found (c .before) ∙ c .if1 .left))
+    (passed-of _ _ _ _ (none c))
 
 pub write-to-spec : {M : Type 1} → statement M
 unfolding writtenTo afterWriteTo framesOf
@@ -84,29 +114,38 @@ write-to-spec =
     (length-most _ (kind-known (c .before .before .before .args .m))))
     (λ c κs. search needs)
     (λ c κs. search needs)
+    (λ c. let d = unfit (c .before) in
+    (rw (c .refused .ensures, d), rw d))
+    (λ c κs. search needs)
+    (λ c κs. search needs)
     (λ c.
-    let d = found (c .before) in
-    let e = ne-eqb _ _ (c .if1 .taken) in
-    (rw (d, e), rw (d, e)))
+    let k = c .before .before in
+    let e = ne-eqb _ _ (c .before .if2 .taken) in
+    let d = found k ∙ answer-bad _ _ _ _ (fits (k .before)) (c .before .if2 .taken) in
+    (rw (c .refused2 .ensures, d, e), rw (d, e)))
+    (λ c κs. search needs)
+    (λ c.
+    let left = c .before in
+    let k = left .before .before in
+    let d = found k
+    ∙ answer-room _ _ _ _ (fits (k .before)) (left .before .if2 .left) (left .if3 .taken) in
+    (rw (c .refused3 .ensures, d), rw d))
     (λ c κs.
     let p = passed (c .before) in
-    let summed = c .before .before .before .before in
-    let measured = summed .before in
-    let numbers = measured .before .numbers-of in
+    let measured = c .before .before .before .before .before .before .before in
     record {
       long = measured .kind-length .ensures;
-      room = rw (p .hosts, numbers .ensures) (p .fits);
+      room = rw (p .hosts, measured .before .numbers-of .ensures) (p .fits);
     })
     (λ c. search needs)
     (λ c.
     let put = c .before .before in
     let free = put .before .before in
     let p = passed free in
-    let summed = free .before .before .before in
-    let numbered = summed .before .before in
+    let d = none free in
+    let numbered = free .before .before .before .before .before .before .before in
     let a = numbered .before .before .args in
-    let d = found (free .before) ∙ free .if1 .left in
     let front = sets-front (framesOf (a .z) (a .m) (a .set)) (a .out .now) (p .fits) in (
-      rw (d, free .if1 .left, p .long),
+      rw (d, p .long),
       rw d (rw (put .put-set .ensures, p .hosts, numbered .numbers-of .ensures) front),
     )))

@@ -1,6 +1,10 @@
--- `lease_frame_read` hands out what `frame::read` found: the answer, the nine numbers and the
--- length. A refusal leaves the numbers as they were, with a length of 0.
+-- `lease_frame_read` hands out what `frame::find` found: the answer, the length, and the numbers,
+-- which are those of the message that reading makes of them (`found-numbers`). A refusal leaves the
+-- numbers as they were, with a length of 0.
 use Rattle.base.proofs.Tests.{told}
+use Rattle.message.specs.Faults.{sizes}
+use Rattle.frame.proofs.Answers.{found-read}
+use Rattle.frame.proofs.Only.{found-numbers}
 use borrow.Author.Needs.{needs}
 use Rattle.frame_c.proofs.lease_frame_read.Statement.{statement}
 use Rattle.frame_c.proofs.lease_frame_read.Tie as tie
@@ -11,7 +15,6 @@ lease-frame-read-spec =
     (tie.spec
     (λ c κs. search needs)
     (λ c. search needs)
-    (λ c κs. search needs)
     (λ c. search needs)
     (λ c. search needs)
     (λ c. search needs)
@@ -21,21 +24,14 @@ lease-frame-read-spec =
     (λ c κs. search needs)
     (λ c. search needs)
     (λ c.
-    let h =
-    told (c .before .before .before .before .before .before .before .before .before .before .before
-    .before .read .ensures)
-    (c .before .before .before .before .before .before .before .before .before .before .m .given
-    .1) in (
-      rw h,
-      (
-        rw (
-          h,
-          c .before .end-of .ensures,
-          c .before .before .before .before .before .before .before .before .numbers-of .ensures,
-        ),
-        rw h,
-      ),
-    ))
+    let whole = c .before .before .before .before .before .before .before .before .before in
+    let a = whole .before .before .before .before .args in
+    let h = told (whole .before .before .find .ensures) (whole .f .given .1) in
+    let read = found-read (sizes (a .n)) (a .bytes .now) in
+    let own = found-numbers (sizes (a .n)) (a .bytes .now) _ _ h in
+    (rw (read, h), (rw (read, h, c .before .end-of .ensures, own), rw (read, h))))
     (λ c.
-    let h = told (c .before .before .before .read .ensures) (c .before .k .given .1) in
-    (rw h, (rw h, rw h))))
+    let a = c .before .before .before .before .before .args in
+    let h = told (c .before .before .before .find .ensures) (c .before .k .given .1) in
+    let read = found-read (sizes (a .n)) (a .bytes .now) in
+    (rw (read, h), (rw (read, h), rw (read, h)))))
