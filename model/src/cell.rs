@@ -50,7 +50,7 @@ impl Slots {
         self.taken.count_ones()
     }
 
-    fn room(&self) -> u32 {
+    pub fn room(&self) -> u32 {
         SLOTS as u32 - self.taken()
     }
 

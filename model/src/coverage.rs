@@ -34,9 +34,9 @@ const LEAST_LEASES: u64 = 1_000;
 pub struct Coverage {
     pub files: u64,
     pub events: u64,
-    answers: [[u64; NUMBERS]; KINDS],
+    pub answers: [[u64; NUMBERS]; KINDS],
     stops: [u64; NUMBERS],
-    cases: [u64; CASES],
+    pub cases: [u64; CASES],
     named: u64,
     renewed: u64,
     passed_on: u64,

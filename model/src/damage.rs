@@ -9,29 +9,34 @@ use crate::random::Random;
 use crate::record::{write_settings, SETTINGS_LENGTH};
 
 /// How many kinds of damage there are.
-const DAMAGES: u64 = 14;
+pub const DAMAGES: u64 = 14;
 
 /// A damaged file of a seed; seeds that follow one another go through all kinds.
 pub fn run(seed: u64) -> Vec<u8> {
     let mut random = Random::new(seed);
     let mut bytes = generate::run(seed, RIGHT);
-    match seed % DAMAGES {
-        0 => cut(&mut random, &mut bytes),
-        1 => wrong_kind(&mut random, &mut bytes),
-        2 => wrong_length(&mut random, &mut bytes),
-        3 => settings_again(&mut random, &mut bytes),
-        4 => replace_settings(&mut bytes, refused_by_1(&mut random)),
-        5 => replace_settings(&mut bytes, refused_by_6(&mut random)),
-        6 => too_long(&mut random, &mut bytes),
-        7 => padded(&mut random, &mut bytes),
-        8 => bytes.clear(),
-        9 => bytes = any_bytes(&mut random),
-        10 => first_record(&mut random, &mut bytes),
-        11 => one_byte(&mut random, &mut bytes),
-        12 => two_faults(&mut random, &mut bytes),
-        _ => cut_head(&mut random, &mut bytes),
-    }
+    damage(seed % DAMAGES, &mut random, &mut bytes);
     bytes
+}
+
+/// One kind of damage, below `DAMAGES`, to a whole file.
+pub fn damage(kind: u64, random: &mut Random, bytes: &mut Vec<u8>) {
+    match kind {
+        0 => cut(random, bytes),
+        1 => wrong_kind(random, bytes),
+        2 => wrong_length(random, bytes),
+        3 => settings_again(random, bytes),
+        4 => replace_settings(bytes, refused_by_1(random)),
+        5 => replace_settings(bytes, refused_by_6(random)),
+        6 => too_long(random, bytes),
+        7 => padded(random, bytes),
+        8 => bytes.clear(),
+        9 => *bytes = any_bytes(random),
+        10 => first_record(random, bytes),
+        11 => one_byte(random, bytes),
+        12 => two_faults(random, bytes),
+        _ => cut_head(random, bytes),
+    }
 }
 
 /// Where the records of a whole file begin, the end of the file included.

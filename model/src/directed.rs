@@ -9,8 +9,11 @@ use crate::random::Random;
 /// The run for the wrong build at that place of `WRONG_RULES`, as the cell of a build goes
 /// through it.
 pub fn run(seed: u64, of: usize, build: Build) -> Vec<u8> {
-    let mut random = Random::new(seed);
-    let settings = settings(&mut random);
+    run_in(settings(&mut Random::new(seed)), of, build)
+}
+
+/// The same in a cell of these settings.
+pub fn run_in(settings: Settings, of: usize, build: Build) -> Vec<u8> {
     let duration = u64::from(settings.longest - settings.spread);
     let mut driver = match Driver::open(settings, build) {
         Some(driver) => driver,

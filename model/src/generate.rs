@@ -43,6 +43,11 @@ const CLOSING: usize = 40;
 pub fn run(seed: u64, build: Build) -> Vec<u8> {
     let mut random = Random::new(seed);
     let settings = settings(&mut random);
+    run_in(settings, random, build)
+}
+
+/// The same in a cell of these settings, from numbers that go on as they come.
+pub fn run_in(settings: Settings, mut random: Random, build: Build) -> Vec<u8> {
     let temper = temper(&mut random);
     let length = length(&mut random);
     match Driver::open(settings, build) {

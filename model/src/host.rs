@@ -24,7 +24,7 @@ impl Rules {
 /// Who replied. Only the build that counts a repeated response twice has repeats.
 #[derive(Clone, Copy, Debug, Default)]
 pub struct Replies {
-    hosts: Hosts,
+    pub hosts: Hosts,
     repeats: u32,
 }
 
@@ -40,7 +40,7 @@ impl Replies {
         }
     }
 
-    fn count(self) -> u32 {
+    pub fn count(self) -> u32 {
         self.hosts.size() + self.repeats
     }
 }

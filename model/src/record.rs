@@ -14,11 +14,11 @@ pub const REPEAT: u16 = 106;
 pub const RESTART: u16 = 107;
 
 /// Length and kind, two bytes each.
-const HEAD: usize = 4;
+pub const HEAD: usize = 4;
 pub const SETTINGS_LENGTH: usize = 21;
 
 /// The length of a settings record, the only kind that may come first.
-fn first_length(kind: u16) -> Option<usize> {
+pub fn first_length(kind: u16) -> Option<usize> {
     match kind {
         SETTINGS => Some(SETTINGS_LENGTH),
         _ => None,
@@ -26,7 +26,7 @@ fn first_length(kind: u16) -> Option<usize> {
 }
 
 /// The length of an event's record, by its kind.
-fn event_length(kind: u16) -> Option<usize> {
+pub fn event_length(kind: u16) -> Option<usize> {
     match kind {
         ADVANCE_ALL => Some(8),
         ADVANCE_ONE | START => Some(9),
@@ -35,7 +35,7 @@ fn event_length(kind: u16) -> Option<usize> {
     }
 }
 
-fn u16_at(bytes: &[u8], at: usize) -> u16 {
+pub fn u16_at(bytes: &[u8], at: usize) -> u16 {
     u16::from_le_bytes([bytes[at], bytes[at + 1]])
 }
 
