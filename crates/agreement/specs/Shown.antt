@@ -1,6 +1,6 @@
 -- Demand 3 as whoever reads a listing sees it: in the listing of any bytes, every event's line
 -- names at most one holder. `Shown` is the claim, and proofs/Shown proves it with nothing supposed.
--- It is the tie between the code and demand 3: the contract of `listing::list` says that what it
+-- It is the tie between the code and demand 3: the contract of `player::list` says that what it
 -- writes is the text of these lines. It rests on what Demand3 rests on, and on record/specs/Record,
 -- lines/specs/Lines and listing/specs/Listing. Assumes nothing.
 use Prim.Native.Nat.{ℕ}

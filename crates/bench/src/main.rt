@@ -7,7 +7,7 @@ fn main() {
     let mut run = room::run_bytes();
     let n = io::read_full(STDIN_FILENO, &mut run);
     let mut out = room::listing_bytes();
-    let listed = listing::list(&run[..n], &mut out);
+    let listed = player::list(&run[..n], &mut out);
     let len = listed.len;
     io::write_all(STDOUT_FILENO, &out[..len]);
 }

@@ -58,7 +58,7 @@ use Rattle.change.specs.Parts.{changeRefusal, changed}
 -- ---- what stays
 
 -- a slot that is not freed stays
-keeps : (ss : List Slot) (i : ℕ) → set ss i (slotAfter false (getD ss i emptySlot)) ≡ ss
+pub keeps : (ss : List Slot) (i : ℕ) → set ss i (slotAfter false (getD ss i emptySlot)) ≡ ss
 unfolding slotAfter
 keeps ss i = set-getD ss i emptySlot
 
@@ -71,7 +71,7 @@ own-target : (m : Message) → addressedTo m (targetOf m) ≡ m
 unfolding addressedTo
 own-target m = message-numbers m
 
-own-sent : (n : ℕ) (ss : List Slot) (m : Message) → targetOf m < n
+pub own-sent : (n : ℕ) (ss : List Slot) (m : Message) → targetOf m < n
     → sentTo n ss (Sent.One m) (singleOf (targetOf m)) ≡ placed ss m
 unfolding sentTo placedEach
 own-sent n ss m b = rw (members-single n (targetOf m) b, own-target m)
@@ -121,7 +121,7 @@ target-small c i o = go (contentAt c i) refl
 
 module _ (c : Cell) (z : Sized c) (o : cellOk c ≡ true) where
   -- a host whose clock did not move stays near
-  still-clocks : (h : ℕ) (x : Host) → x .clock ≡ hostAt c h .clock
+  pub still-clocks : (h : ℕ) (x : Host) → x .clock ≡ hostAt c h .clock
       → clocksNear (withHost c h x) ≡ true
   still-clocks h x t =
       let i = cell-in c z o in
@@ -423,13 +423,13 @@ module _ {c : Cell} {e : Event} {i h : ℕ} {k : Change} (f : Found c e i h k) w
   is-found = rw (f .change-is, f .host-is, f .slot-is) (refusal-is c (f .sized) (f .ok) e (f .one))
 
   -- refused: the same cell with the number
-  event-refused : (a : ℕ) → (a ≡ done → ⊥) → changeRefusal c i h k ≡ a
+  pub event-refused : (a : ℕ) → (a ≡ done → ⊥) → changeRefusal c i h k ≡ a
       → answeredWith a c ≡ eventOf c e
   unfolding eventOf
   event-refused a n q =
       sym (ap (λ (x : ℕ). answerWith x c (afterOf c e)) (is-found ∙ q) ∙ rw (ne-eqb a done n))
 
-  event-done : changeRefusal c i h k ≡ done → answeredWith done (changed c i h k) ≡ eventOf c e
+  pub event-done : changeRefusal c i h k ≡ done → answeredWith done (changed c i h k) ≡ eventOf c e
   unfolding eventOf
   event-done q =
       sym (ap (λ (x : ℕ). answerWith x c (afterOf c e)) (is-found ∙ q)

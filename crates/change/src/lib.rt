@@ -1,6 +1,6 @@
 // What an event does, found from small values: settings, the event, one host and what one slot
 // holds. It is handed no cell: which host and which slot they are, and whether there is room for
-// what is sent, is for the crate `event`.
+// what is sent, is for the crates `event` and `acts`.
 ghost use mathlib.Core.Path.{_≡_};
 ghost use Prim.Native.Nat.{_<_};
 ghost use Rattle.cell.specs.Events.{messagesIn};
@@ -71,7 +71,8 @@ pub fn slot_of(e: Event) -> u8
     }
 }
 
-fn target_in(content: Content) -> u8
+// The target of the message in a slot, or 0.
+pub fn target_in(content: Content) -> u8
     ensures { λ r. ⌜ r ≡ targetIn content ⌝ }
 {
     match content {

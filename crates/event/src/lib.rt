@@ -1,6 +1,6 @@
 // An event carried out: the change that it makes, found from small values (crate `change`), is
 // committed to the cell in place. `apply` tests the cell's limits first; `apply_within` supposes
-// them, so that a loop over events tests nothing again.
+// them. A loop over events holds the cell itself, and commits them so too (crate `player`).
 ghost use mathlib.Core.Path.{_≡_};
 ghost use mathlib.Core.Bool.{true};
 ghost use Rattle.cell.specs.CellLimits.{cellOk};

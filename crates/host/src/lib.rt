@@ -2,6 +2,7 @@
 // each event or message that hands the host back with the answer, at most one message and the set
 // of its receivers. A refusal hands back the same host and no message.
 ghost use mathlib.Core.Path.{_≡_};
+ghost use mathlib.Core.Bool.{true};
 ghost use Prim.Native.Nat.{_+_, _≤_};
 ghost use Rattle.message.specs.declared.Message.the-variants.{PrepareRequest, PrepareResponseEmpty};
 ghost use Rattle.message.specs.declared.Message.the-variants.{PrepareResponseLease, ProposeRequest};
@@ -183,7 +184,7 @@ impl Host {
     }
 
     // The clock rises, and the state ages with it.
-    fn advanced_host(self, d: u64) -> Host
+    pub fn advanced_host(self, d: u64) -> Host
         requires { ⌜ self .clock + d ≤ lastTick ⌝ }
         ensures { λ r. ⌜ r ≡ advancedHost self d ⌝ }
     {
@@ -205,6 +206,14 @@ impl Host {
         if !host_ok(s, self) {
             return refused_with(REFUSED_CELL, self);
         }
+        self.advance_within(s, d)
+    }
+
+    // The same, of a host within its limits.
+    pub fn advance_within(self, s: Settings, d: u64) -> Stepped
+        requires { ⌜ hostOk s self ≡ true ⌝ }
+        ensures { λ r. ⌜ r ≡ advanceOf s self d ⌝ }
+    {
         if d == 0 {
             return refused_with(REFUSED_CLOCK, self);
         }
@@ -286,8 +295,8 @@ impl Host {
         }
     }
 
-    // A waiting host does nothing.
-    fn on_delivery(self, s: Settings, m: Message) -> Stepped
+    // A message that `receive` does not refuse. A waiting host does nothing.
+    pub fn on_delivery(self, s: Settings, m: Message) -> Stepped
         requires { ⌜ Handed s self m ⌝ }
         ensures { λ r. ⌜ r ≡ onDelivery s self m ⌝ }
     {

@@ -1,2 +1,2 @@
--- Laws of a listing's lines: how long their parts are, the walk over names, and lines in a row.
+-- Laws of a listing's lines: how long their parts are, and the walk over names.
 pub mod Laws

@@ -1,11 +1,11 @@
 // The lines of a listing, written into lent bytes at an offset. Each function gives the offset past
 // what it wrote.
 ghost use mathlib.Core.List.{_∷_};
-ghost use Prim.Native.Nat.{_+_, _*_, _≤_, _<_};
+ghost use Prim.Native.Nat.{_+_, _≤_, _<_};
 ghost use lib.ListN.{length};
 ghost use Rattle.text.specs.Parts.{Put};
-ghost use Rattle.lines.specs.Lines.{settings, event, stop, counts, namesFrom};
-ghost use Rattle.lines.specs.Lines.{lastOf, nameText, namesText, eventHead, lineText};
+ghost use Rattle.lines.specs.Lines.{settings, stop, counts};
+ghost use Rattle.lines.specs.Lines.{lastOf, nameText, eventHead, lineText};
 use host::Host;
 use rules::Named;
 use state::Settings;
@@ -75,26 +75,19 @@ fn put_name(out: &mut [u8], at: usize, m: Named) -> usize
     put_holder(out, a, m)
 }
 
-// Whom the first n hosts name.
-fn put_names(out: &mut [u8], at: usize, n: u8, hosts: [Host; 9]) -> usize
-    requires { ⌜ (n ≤ 9) × (at + 4 * n ≤ length (now out)) ⌝ }
-    ensures { λ r. ⌜ Put (now (out .entry)) at (namesText (namesFrom hosts n 0)) r (now (out .exit))
-        × (r ≤ at + 4 * n) ⌝ }
+// Whom a host names, after a space.
+pub fn put_name_of(out: &mut [u8], at: usize, host: Host) -> usize
+    requires { ⌜ at + 4 ≤ length (now out) ⌝ }
+    ensures { λ r. ⌜ Put (now (out .entry)) at (32 ∷ nameText (host .state .named)) r
+        (now (out .exit)) × (r ≤ at + 4) ⌝ }
 {
-    let mut end = at;
-    let mut i: u8 = 0;
-    while i < n {
-        let host = hosts[i as usize];
-        let state = host.state;
-        let named = state.named;
-        end = put_name(out, end, named);
-        i = i + 1;
-    }
-    end
+    let state = host.state;
+    let named = state.named;
+    put_name(out, at, named)
 }
 
-// An event's place, its kind and its answer.
-fn put_event_head(out: &mut [u8], at: usize, place: u64, kind: u16, answer: u8) -> usize
+// An event's place from 1, its kind and its answer, with which its line begins.
+pub fn put_event_head(out: &mut [u8], at: usize, place: u64, kind: u16, answer: u8) -> usize
     requires { ⌜ ((place < 100000) × (kind < 1000)) × (at + 13 ≤ length (now out)) ⌝ }
     ensures { λ r. ⌜ Put (now (out .entry)) at (eventHead place kind answer) r (now (out .exit))
         × (r ≤ at + 13) ⌝ }
@@ -102,24 +95,4 @@ fn put_event_head(out: &mut [u8], at: usize, place: u64, kind: u16, answer: u8) 
     let a = text::put_decimal(out, at, place);
     let b = text::put_spaced(out, a, kind as u64);
     text::put_spaced(out, b, answer as u64)
-}
-
-// An event's place from 1, its kind, its answer, and whom the first n hosts name.
-pub fn put_event(
-    out: &mut [u8],
-    at: usize,
-    place: u64,
-    kind: u16,
-    answer: u8,
-    n: u8,
-    hosts: [Host; 9],
-) -> usize
-    requires { ⌜ ((n ≤ 9) × ((place < 100000) × (kind < 1000))) × (at + 50 ≤ length (now out)) ⌝ }
-    ensures { λ r. ⌜ Put (now (out .entry)) at
-        (lineText (event place kind answer (namesFrom hosts n 0))) r (now (out .exit))
-        × (r ≤ at + 50) ⌝ }
-{
-    let head = put_event_head(out, at, place, kind, answer);
-    let end = put_names(out, head, n, hosts);
-    text::put_byte(out, end, b'\n')
 }

@@ -1,6 +1,5 @@
--- Laws of the listing: its script, its lines with counts so far, and the walk that writes them.
+-- Laws of the listing: its script, its lines with counts so far, and how it ends.
 pub mod Counting
-pub mod Walking
-pub mod Opening
+pub mod Ending
 pub mod Records
 pub mod Claims

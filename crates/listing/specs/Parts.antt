@@ -7,14 +7,13 @@ use mathlib.Core.List.{List, [], _∷_}
 use lib.Dec.{eqb}
 use lib.ListN.{length, take}
 use Rattle.base.specs.Refusals.{done}
-use Rattle.text.specs.Parts.{Put}
-use Rattle.host.specs.declared.Host.{Host}
+use Rattle.slots.specs.Slots.{slotCount, empties}
 use Rattle.cell.specs.declared.Cell.{Cell}
 use Rattle.cell.specs.Events.{cellOf, eventOf}
 use Rattle.cell.specs.Claims.{Sound}
 use Rattle.record.specs.declared.Record.{Record}
 use Rattle.record.specs.Record.{kindOf}
-use Rattle.lines.specs.Lines.{Line, event, stop, counts, namesFrom, lineText}
+use Rattle.lines.specs.Lines.{Line, event, stop, counts}
 use Rattle.listing.specs.declared.Walk.{Walk}
 use Rattle.listing.specs.Listing.{Script, ends, cuts, then, namesOf, settingsLength}
 use Rattle.listing.specs.Listing.{longestRun}
@@ -39,24 +38,24 @@ lastLines at a r Record.End = counts a r ∷ []
 lastLines at a r (Record.Fault f) = stop at f ∷ counts a r ∷ []
 lastLines at a r (Record.Event e next) = counts a r ∷ []
 
--- what the turn of an event gives: its line is written, and its answer counted
-pub record Turned (w : Walk) (kind answer n : ℕ) (hosts : List Host) (next : ℕ) (r : Walk)
-    (before after : List ℕ) : Type 0 where
-  pub at : r .at ≡ next
-  pub applied : r .applied ≡ w .applied + doneOf answer
-  pub refused : r .refused ≡ w .refused + (1 - doneOf answer)
-  pub line : Put before (w .pos)
-      (lineText (event (w .applied + w .refused + 1) kind answer (namesFrom hosts n 0))) (r .pos)
-      after
-  pub near : r .pos ≤ w .pos + 50
-
 -- what the walk of a run file of whole settings supposes
 pub record Begins (run out : List ℕ) (from : ℕ) (c : Cell) : Type 0 where
   pub there : settingsLength ≤ length run
   pub short : length run ≤ longestRun
   pub room : from + 10 * (length run - settingsLength) + 128 ≤ length out
   pub sound : Sound c
+  pub vacant : empties (c .slots) ≡ slotCount
 
 -- n counts bytes at the start of xs, said in the two ways by which `&out[..n]` needs no proof
 abbrev pub Counts : ℕ → List ℕ → Type 0
 Counts n xs = (n ≤ length xs) × (n ≡ length (take n xs))
+
+-- the walk past an event: its answer is counted
+unfoldable pub walkedTo : Walk → ℕ → ℕ → ℕ → Walk
+walkedTo w answer next pos =
+    record {
+      at = next;
+      pos = pos;
+      applied = w .applied + doneOf answer;
+      refused = w .refused + (1 - doneOf answer);
+    }

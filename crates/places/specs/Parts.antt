@@ -1,8 +1,9 @@
--- What the code that opens a cell supposes behind opening's refusals. No claim rests on it. Assumes
--- nothing.
+-- What the code that opens a cell supposes behind opening's refusals, and a turn of the walk over
+-- clocks. No claim rests on it. Assumes nothing.
 use mathlib.Core.Path.{_≡_}
-use mathlib.Core.Bool.{true}
+use mathlib.Core.Bool.{true, cond}
 use Prim.Native.Nat.{ℕ, _≤_}
+use lib.Dec.{eqb}
 use Rattle.message.specs.Message.{lastTick}
 use Rattle.state.specs.declared.Settings.{Settings}
 use Rattle.state.specs.StateLimits.{settingsOk}
@@ -11,3 +12,7 @@ use Rattle.state.specs.StateLimits.{settingsOk}
 pub record Opens (s : Settings) (clock : ℕ) : Type 0 where
   pub settings : settingsOk s ≡ true
   pub early : clock ≤ lastTick
+
+-- the clock at place i, where the host at one place has a new clock
+unfoldable pub clockWith : ℕ → ℕ → ℕ → ℕ → ℕ
+clockWith i host moved clock = cond (eqb i host) moved clock

@@ -5,7 +5,7 @@ ghost use Prim.Native.Nat.{_<_, _≤_, _-_, max, min};
 ghost use lib.Dec.{leb};
 ghost use Rattle.places.specs.Places.{placeOk, stateAtOk, placesOk, statesOk, clocksOk};
 ghost use Rattle.places.specs.Places.{newHost, newHosts};
-ghost use Rattle.places.specs.Parts.{Opens};
+ghost use Rattle.places.specs.Parts.{Opens, clockWith};
 use host::Host;
 use host::LAST_WAIT;
 use message::LAST_TICK;
@@ -67,7 +67,7 @@ pub fn states_ok(s: Settings, hosts: [Host; 9]) -> bool
 }
 
 // The later of two clocks.
-fn later_of(a: u64, b: u64) -> u64
+pub fn later_of(a: u64, b: u64) -> u64
     ensures { λ r. ⌜ r ≡ max a b ⌝ }
 {
     if a < b {
@@ -77,7 +77,7 @@ fn later_of(a: u64, b: u64) -> u64
 }
 
 // The earlier of two clocks.
-fn earlier_of(a: u64, b: u64) -> u64
+pub fn earlier_of(a: u64, b: u64) -> u64
     ensures { λ r. ⌜ r ≡ min a b ⌝ }
 {
     if b < a {
@@ -86,8 +86,18 @@ fn earlier_of(a: u64, b: u64) -> u64
     a
 }
 
+// The clock at place i, where the host at one place has a new clock.
+pub fn clock_with(i: usize, host: usize, moved: u64, clock: u64) -> u64
+    ensures { λ r. ⌜ r ≡ clockWith i host moved clock ⌝ }
+{
+    if i == host {
+        return moved;
+    }
+    clock
+}
+
 // Whether the latest clock is at most S past the earliest.
-fn spread_ok(s: Settings, low: u64, high: u64) -> bool
+pub fn spread_ok(s: Settings, low: u64, high: u64) -> bool
     requires { ⌜ low ≤ high ⌝ }
     ensures { λ r. ⌜ r ≡ leb (high - low) (s .spread) ⌝ }
 {

@@ -6,7 +6,7 @@ use libc::STDOUT_FILENO;
 // Writes the listing of a run file.
 fn show_run(run: &[u8]) {
     let mut out = room::listing_bytes();
-    let listed = listing::list(run, &mut out);
+    let listed = player::list(run, &mut out);
     let len = listed.len;
     io::write_all(STDOUT_FILENO, &out[..len]);
 }

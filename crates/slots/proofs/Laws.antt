@@ -73,6 +73,20 @@ gained-counts frees (s ∷ ss) (suc i) h =
     go true x y z e = omega (arith, e)
     go false x y z e = e
 
+-- an empty slot that is filled is one empty slot less
+pub filled-counts : (ss : List Slot) (i : ℕ) (m : Message) → i < length ss
+    → isEmpty (getD ss i emptySlot .content) ≡ true
+    → suc (empties (set ss i (slotWith m))) ≡ empties ss
+unfolding empties isEmpty
+filled-counts [] i m h e = absurd (omega arith)
+filled-counts (s ∷ ss) zero m h e = rw e
+filled-counts (s ∷ ss) (suc i) m h e =
+    go (isEmpty (s .content)) _ _ (filled-counts ss i m (omega arith) e)
+  where
+    go : (b : Bool) (x y : ℕ) → suc x ≡ y → suc (cond b (suc x) x) ≡ cond b (suc y) y
+    go true x y q = omega (arith, q)
+    go false x y q = q
+
 -- ---- a slot that holds a message is left alone by placing, to any receivers, and by freeing
 -- another
 

@@ -133,6 +133,48 @@ placing-first n receivers m ss e =
 
 module _ {n receivers : ℕ} {m : Message} {start ss : List Slot} {h i : ℕ}
     (p : Placing n receivers m start ss h i) where
+  here : i < slotCount → i < length ss
+  here c = omega (arith, p .long)
+
+  -- a host that is no receiver is passed over
+  pub placing-skip : h < n → isIn receivers h ≡ false → Placing n receivers m start ss (h + 1) i
+  placing-skip b e =
+      record {
+        hosts = omega arith;
+        places = p .places;
+        long = p .long;
+        taken = p .taken;
+        rest = sym (placed-skip ss m receivers h n b e) ∙ p .rest;
+      }
+
+  -- and so is a slot that is taken
+  pub placing-on : i < slotCount → isEmpty (getD ss i emptySlot .content) ≡ false
+      → Placing n receivers m start ss h (i + 1)
+  placing-on c e =
+      record {
+        hosts = p .hosts;
+        places = omega arith;
+        long = p .long;
+        taken = omega (arith, p .taken, lowest-later ss i (here c) e);
+        rest = p .rest;
+      }
+
+  -- a receiver's message goes into a slot that is empty
+  pub placing-fill : h < n → i < slotCount → isIn receivers h ≡ true
+      → isEmpty (getD ss i emptySlot .content) ≡ true
+      → Placing n receivers m start (set ss i (slotWith (addressedTo m h))) (h + 1) (i + 1)
+  placing-fill b c e f =
+      let low : lowest ss ≡ i = omega (arith, p .taken, lowest-here ss i (here c) f) in
+      record {
+        hosts = omega arith;
+        places = omega arith;
+        long = length-set ss i (slotWith (addressedTo m h)) ∙ p .long;
+        taken = lowest-filled ss i (addressedTo m h) (here c) low;
+        rest =
+            rw (← placed-here ss i (addressedTo m h) low)
+            (sym (placed-turn ss m receivers h n b e) ∙ p .rest);
+      }
+
   abbrev pub WalksOn : Turn → Type 0
   WalksOn t = Placing n receivers m start (set ss i (t .slot)) (t .host) (t .at)
       × ((n - t .host) + (slotCount - t .at) < (n - h) + (slotCount - i))
@@ -143,49 +185,23 @@ module _ {n receivers : ℕ} {m : Message} {start ss : List Slot} {h i : ℕ}
   placing-turn b c =
       by-test WalksOn _ _ _
       (λ e.
-      by-test WalksOn _ _ _ (λ f. (fill e f, omega arith))
-      (λ f. (rw (set-getD ss i emptySlot) (on f), omega arith)))
-      (λ e. (rw (set-getD ss i emptySlot) (skip e), omega arith))
-    where
-      here : i < length ss
-      here = omega (arith, p .long)
+      by-test WalksOn _ _ _ (λ f. (placing-fill b c e f, omega arith))
+      (λ f. (rw (set-getD ss i emptySlot) (placing-on c f), omega arith)))
+      (λ e. (rw (set-getD ss i emptySlot) (placing-skip b e), omega arith))
 
-      -- a host that is no receiver
-      skip : isIn receivers h ≡ false → Placing n receivers m start ss (h + 1) i
-      skip e =
-          record {
-            hosts = omega arith;
-            places = p .places;
-            long = p .long;
-            taken = p .taken;
-            rest = sym (placed-skip ss m receivers h n b e) ∙ p .rest;
-          }
-
-      -- a slot that is taken
-      on : isEmpty (getD ss i emptySlot .content) ≡ false → Placing n receivers m start ss h (i + 1)
-      on e =
-          record {
-            hosts = p .hosts;
-            places = omega arith;
-            long = p .long;
-            taken = omega (arith, p .taken, lowest-later ss i here e);
-            rest = p .rest;
-          }
-
-      -- a receiver's message goes into a slot that is empty
-      fill : isIn receivers h ≡ true → isEmpty (getD ss i emptySlot .content) ≡ true
-          → Placing n receivers m start (set ss i (slotWith (addressedTo m h))) (h + 1) (i + 1)
-      fill e f =
-          let low : lowest ss ≡ i = omega (arith, p .taken, lowest-here ss i here f) in
-          record {
-            hosts = omega arith;
-            places = omega arith;
-            long = length-set ss i (slotWith (addressedTo m h)) ∙ p .long;
-            taken = lowest-filled ss i (addressedTo m h) here low;
-            rest =
-                rw (← placed-here ss i (addressedTo m h) low)
-                (sym (placed-turn ss m receivers h n b e) ∙ p .rest);
-          }
+  -- where every slot is taken, a host's turn changes nothing
+  pub placing-full : h < n → slotCount ≤ i → Placing n receivers m start ss (h + 1) i
+  placing-full b c =
+      let full : length ss ≤ lowest ss = omega (arith, p .taken, p .long) in
+      record {
+        hosts = omega arith;
+        places = p .places;
+        long = p .long;
+        taken = p .taken;
+        rest =
+            placed-each-full ss m _ full
+            ∙ sym (placed-each-full ss m (membersFrom receivers h (n - h)) full) ∙ p .rest;
+      }
 
   -- where the hosts or the slots end
   pub placing-last : (n ≤ h) ⊎ (slotCount ≤ i) → ss ≡ placedEach start m (members n receivers)

@@ -1,7 +1,7 @@
 -- Laws of digits, and of text that is put at an offset, one part after the other. Assumes nothing.
 use mathlib.Core.Path.{_≡_, refl, sym, ap, _∙_}
 use mathlib.Core.Bool.{Bool, true, false, cond}
-use mathlib.Core.List.{List, [], _∷_, _++_}
+use mathlib.Core.List.{List, [], _∷_, _++_, append-assoc}
 use Prim.Native.Nat.{ℕ, zero, suc, _+_, _*_, _/_, _%_, _^_, _≤_, _<_}
 use native.Mathlib.Omega.{arith}
 use lib.Dec.{ltb, lit≤}
@@ -11,7 +11,7 @@ use lib.Seq.{sets, length-sets}
 use borrow.Author.Tests.{lt-ltb, le-ltb, ltb-false}
 use Rattle.base.proofs.Stores.{sets-append, sets-front}
 use Rattle.text.specs.Text.{digitsOf, decimal}
-use Rattle.text.specs.Parts.{Put}
+use Rattle.text.specs.Parts.{Put, pairOf, tripleOf}
 
 -- ---- digits
 
@@ -45,6 +45,44 @@ pub decimal-more : (n : ℕ) → 10 ≤ n → decimal n ≡ decimal (n / 10) ++ 
 unfolding decimal digitsOf
 decimal-more n h =
     rw (le-ltb n 10 h, digits-same n (suc (n / 10)) (n / 10) (omega arith) (omega arith))
+
+-- two digits, three, and the last three behind the others
+pub decimal-two : (n : ℕ) → 10 ≤ n → n < 100 → decimal n ≡ pairOf n
+decimal-two n h l =
+    let e : 48 + n / 10 ≡ 48 + n / 10 % 10 = omega arith in
+    decimal-more n h
+    ∙ ap (λ (ds : List ℕ). ds ++ ((48 + n % 10) ∷ [])) (decimal-one (n / 10) (omega arith))
+    ∙ ap (λ (x : ℕ). x ∷ (48 + n % 10) ∷ []) e
+
+-- what a division by ten makes of a number's last digits
+pairs : (n : ℕ) → pairOf (n / 10) ++ ((48 + n % 10) ∷ []) ≡ tripleOf n
+pairs n =
+    let e : n / 10 / 10 % 10 ≡ n / 100 % 10 = omega arith in
+    ap (λ (x : ℕ). (48 + x) ∷ (48 + n / 10 % 10) ∷ (48 + n % 10) ∷ []) e
+
+pub decimal-three : (n : ℕ) → 100 ≤ n → n < 1000 → decimal n ≡ tripleOf n
+decimal-three n h l =
+    decimal-more n (omega arith)
+    ∙ ap (λ (ds : List ℕ). ds ++ ((48 + n % 10) ∷ []))
+    (decimal-two (n / 10) (omega arith) (omega arith))
+    ∙ pairs n
+
+pub decimal-thousand : (n : ℕ) → 1000 ≤ n → decimal n ≡ decimal (n / 1000) ++ tripleOf n
+decimal-thousand n h =
+    let hundreds : n / 10 / 10 ≡ n / 100 = omega arith in
+    let thousands : n / 100 / 10 ≡ n / 1000 = omega arith in
+    let ds = decimal (n / 1000) in
+    decimal-more n (omega arith)
+    ∙ ap (λ (xs : List ℕ). xs ++ ((48 + n % 10) ∷ [])) (decimal-more (n / 10) (omega arith))
+    ∙ ap (λ (k : ℕ). (decimal k ++ ((48 + n / 10 % 10) ∷ [])) ++ ((48 + n % 10) ∷ [])) hundreds
+    ∙ ap (λ (xs : List ℕ). (xs ++ ((48 + n / 10 % 10) ∷ [])) ++ ((48 + n % 10) ∷ []))
+    (decimal-more (n / 100) (omega arith))
+    ∙ ap (λ (k : ℕ).
+    ((decimal k ++ ((48 + n / 100 % 10) ∷ [])) ++ ((48 + n / 10 % 10) ∷ []))
+    ++ ((48 + n % 10) ∷ [])) thousands
+    ∙ append-assoc (ds ++ ((48 + n / 100 % 10) ∷ [])) ((48 + n / 10 % 10) ∷ [])
+    ((48 + n % 10) ∷ [])
+    ∙ append-assoc ds ((48 + n / 100 % 10) ∷ []) (pairOf n)
 
 pow-ten : (j : ℕ) → 10 ^ suc (suc j) ≡ 10 * 10 ^ suc j
 pow-ten j =

@@ -1,7 +1,7 @@
 -- `put_end` writes the last lines: the stop, if the record is a fault, and the counts.
 use borrow.Author.Needs.{needs}
 use Rattle.text.proofs.Laws.{put-then}
-use Rattle.listing.proofs.Walking.{no-fault, last-fault}
+use Rattle.listing.proofs.Ending.{no-fault, last-fault}
 use Rattle.listing.proofs.put_end.Statement.{statement}
 use Rattle.listing.proofs.put_end.Tie as tie
 
