@@ -12,7 +12,7 @@ use lib.Seq.{set-getD, getD-set-same, getD-set-other}
 use borrow.Author.Tests.{ltb-true, leb-true, leb-false, eqb-true, eqb-false, not-true, not-false}
 use borrow.Author.Tests.{lt-ltb, le-ltb, le-leb, ne-eqb}
 use Rattle.base.specs.Refusals.{done, unless, firstOf, refusedCell, refusedHost, refusedSlot}
-use Rattle.base.specs.Refusals.{refusedSpread, refusedClock}
+use Rattle.base.specs.Refusals.{refusedFull, refusedSpread, refusedClock}
 use Rattle.base.proofs.Tests.{by-test, first-next, first-same, first-only, first-passed}
 use Rattle.base.proofs.Tests.{unless-passed, unless-next, none-of, held, next, true-false}
 use Rattle.quorum.specs.Sets.{singleOf}
@@ -25,7 +25,7 @@ use Rattle.host.specs.declared.Host.{Host}
 use Rattle.host.specs.declared.Sent.{Sent}
 use Rattle.host.specs.declared.Stepped.{Stepped}
 use Rattle.host.specs.Steps.{hostOk, refusedWith, advanceRefusal, advancedHost, restartedHost}
-use Rattle.host.specs.Steps.{restartOf, startOf, onDelivery}
+use Rattle.host.specs.Steps.{advanceOf, restartOf, startOf, onDelivery}
 use Rattle.host.proofs.Refusals.{advance-in}
 use Rattle.host.proofs.HostLimits.{host-in}
 use Rattle.host.proofs.Within.{fine-step, lawful-advance, lawful-restart, lawful-start}
@@ -47,7 +47,7 @@ use Rattle.cell.specs.declared.Event.the-variants.{AdvanceAll, AdvanceOne, Star
 use Rattle.cell.specs.declared.Event.the-variants.{Repeat, Restart}
 use Rattle.cell.specs.CellLimits.{hostAt, withHost, contentAt, clocksNear, cellOk}
 use Rattle.cell.specs.Events.{answeredWith, answerWith, hostRefusal, sentTo, stepFull, stepped}
-use Rattle.cell.specs.Events.{hostsRefusal, advanceAllRefusal, advancedAll, deliverFull}
+use Rattle.cell.specs.Events.{messagesIn, hostsRefusal, advanceAllRefusal, advancedAll, deliverFull}
 use Rattle.cell.specs.Events.{deliverRefusal, delivered, loseRefusal, repeatRefusal, repeated}
 use Rattle.cell.specs.Events.{refusalOf, afterOf, eventOf}
 use Rattle.cell.specs.Claims.{Sized}
@@ -62,7 +62,7 @@ use Rattle.acts.specs.Parts.{actOf, watchedBy, clockBy, clockAfter, allA
 use Rattle.acts.specs.Parts.{placeOf, hostAct, nearBy, roomRefusal, hostAnswer, hostStep}
 use Rattle.acts.specs.Parts.{slotIndex, contentIn, HandedIn, deliverAct, answerWithRoom}
 use Rattle.acts.specs.Parts.{loseAnswer, repeatAnswer, sentIn, repeatSent, slotWithAnswer}
-use Rattle.acts.specs.Parts.{emptyWith}
+use Rattle.acts.specs.Parts.{emptyWith, advanceStep}
 
 -- what an act leaves: the event is answered so, once the first hosts have moved and what is sent is
 -- placed
@@ -97,12 +97,15 @@ About e (Act.Host number) = AtHost e number
 About e (Act.Deliver i) = e ≡ Deliver i
 About e (Act.Lose i) = e ≡ Lose i
 About e (Act.Repeat i) = e ≡ Repeat i
+About e (Act.Advance number) = AtHost e number × (e ≡ AdvanceOne number (ticksOf e))
 
 about : (e : Event) → About e (actOf e)
 unfolding About hostAct changeOf
 about (AdvanceAll d) = refl
-about (AdvanceOne h d) =
-    record { one = refl; slot-is = refl; host-is = λ t. refl; change-is = λ s x t. refl }
+about (AdvanceOne h d) = (
+  record { one = refl; slot-is = refl; host-is = λ t. refl; change-is = λ s x t. refl },
+  refl,
+)
 about (Start h d) =
     record { one = refl; slot-is = refl; host-is = λ t. refl; change-is = λ s x t. refl }
 about (Deliver i) = refl
@@ -119,6 +122,11 @@ at-host : (e : Event) (number : ℕ) → actOf e ≡ Act.Host number → AtHost 
 unfolding About
 at-host e number p = subst (About e) p (about e)
 
+is-advance : (e : Event) (number : ℕ) → actOf e ≡ Act.Advance number
+    → AtHost e number × (e ≡ AdvanceOne number (ticksOf e))
+unfolding About
+is-advance e number p = subst (About e) p (about e)
+
 is-deliver : (e : Event) (i : ℕ) → actOf e ≡ Act.Deliver i → e ≡ Deliver i
 unfolding About
 is-deliver e i p = subst (About e) p (about e)
@@ -130,6 +138,23 @@ is-lose e i p = subst (About e) p (about e)
 is-repeat : (e : Event) (i : ℕ) → actOf e ≡ Act.Repeat i → e ≡ Repeat i
 unfolding About
 is-repeat e i p = subst (About e) p (about e)
+
+-- ---- an advance of one host sends nothing
+
+nothing-full : (s : Settings) (h : Host) (d empty : ℕ) → roomRefusal (advanceOf s h d) empty ≡ done
+unfolding advanceOf messagesIn
+nothing-full s h d empty =
+    by-test (λ (x : Stepped). roomRefusal x empty ≡ done) (eqb (advanceRefusal s h d) done) _ _
+    (λ _. none) (λ _. none)
+  where
+    none : unless (leb 0 empty) refusedFull ≡ done
+    none = rw (le-leb 0 empty (omega arith))
+
+advance-is : (s : Settings) (k d number : ℕ) (h : Host) (low high empty : ℕ)
+    → advanceStep s (AdvanceOne k d) number h low high
+    ≡ hostStep s (AdvanceOne k d) number h low high empty
+unfolding advanceStep hostStep hostAnswer hostAct nearBy firstOf
+advance-is s k d number h low high empty = rw (nothing-full s h d empty)
 
 -- ---- places, slots, refusals
 
@@ -534,6 +559,25 @@ module _ (c : Cell) (z : Sized c) (o : cellOk c ≡ true) (empty : ℕ) (m : emp
         Acted c e (step .answer) (set (c .hosts) place (step .host)) (c .slots) 0 (step .sent)
         (step .receivers) empty
     host-acts e number q = left e number (at-host e number q)
+
+    pub advance-acts : (e : Event) (number : ℕ) → actOf e ≡ Act.Advance number → (g low high : ℕ)
+        → watchedBy e (c .settings .n) ≤ g → g ≤ c .settings .n
+        → Span (movedHosts c e) (c .settings .n) g low high
+        → let place = placeOf (c .settings .n) number in
+        let step = advanceStep (c .settings) e number (hostAt c place) low high in
+        Acted c e (step .answer) (set (c .hosts) place (step .host)) (c .slots) 0 (step .sent)
+        (step .receivers) empty
+    advance-acts e number q g low high b w p =
+        let t = is-advance e number q in
+        let place = placeOf (c .settings .n) number in
+        let same : advanceStep (c .settings) e number (hostAt c place) low high
+        ≡ hostStep (c .settings) e number (hostAt c place) low high empty =
+        subst
+        (λ (x : Event).
+        advanceStep (c .settings) x number (hostAt c place) low high
+        ≡ hostStep (c .settings) x number (hostAt c place) low high empty) (sym (t .1))
+        (advance-is (c .settings) number (ticksOf e) number (hostAt c place) low high empty) in
+        rw same (left e number (t .0) g low high b w p)
 
     -- ---- an event at a slot
 

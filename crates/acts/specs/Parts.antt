@@ -30,7 +30,7 @@ use Rattle.change.specs.Parts.{ticksOf}
 
 abbrev pub actOf : Event → Act
 actOf (AdvanceAll d) = Act.All
-actOf (AdvanceOne h d) = Act.Host h
+actOf (AdvanceOne h d) = Act.Advance h
 actOf (Start h d) = Act.Host h
 actOf (Deliver i) = Act.Deliver i
 actOf (Lose i) = Act.Lose i
@@ -115,6 +115,18 @@ hostAnswer s e number step low high empty =
 unfoldable pub hostStep : Settings → Event → ℕ → Host → ℕ → ℕ → ℕ → Stepped
 hostStep s e number h low high empty =
     stepWith (hostAnswer s e number (hostAct s e h) low high empty) h (hostAct s e h)
+
+-- an advance of one host sends nothing
+unfoldable pub advanceStep : Settings → Event → ℕ → Host → ℕ → ℕ → Stepped
+advanceStep s e number h low high =
+    let step = advanceOf s h (ticksOf e) in
+    stepWith
+    (firstOf (
+    unless (ltb number (s .n)) refusedHost
+    ∷ step .answer
+    ∷ unless (leb (high - low) (s .spread)) refusedSpread
+    ∷ []
+    )) h step
 
 -- ---- a slot
 

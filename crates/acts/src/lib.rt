@@ -11,7 +11,7 @@ ghost use Rattle.acts.specs.Parts.{actOf, watchedBy, clockAfter, allAnsw
 ghost use Rattle.acts.specs.Parts.{placeOf, hostAct, nearBy, hostStep, slotIndex, contentIn};
 ghost use Rattle.acts.specs.Parts.{HandedIn, deliverAct, answerWithRoom, loseAnswer};
 ghost use Rattle.acts.specs.Parts.{repeatAnswer, sentIn, repeatSent, slotWithAnswer};
-ghost use Rattle.acts.specs.Parts.{emptyWith, nextIn};
+ghost use Rattle.acts.specs.Parts.{emptyWith, nextIn, advanceStep};
 use base::DONE;
 use base::REFUSED_CLOCK;
 use base::REFUSED_FULL;
@@ -29,13 +29,15 @@ use slots::SLOTS;
 use slots::Slot;
 use state::Settings;
 
-// How an event is carried out: at all hosts, at one, by a delivery, a loss or a repeat.
+// How an event is carried out: at all hosts, at one, by a delivery, a loss or a repeat; an advance
+// of one host apart, since it alone asks for all clocks.
 pub enum Act {
     All,
     Host(u8),
     Deliver(u8),
     Lose(u8),
     Repeat(u8),
+    Advance(u8),
 }
 
 // How an event is carried out, and at which host or slot.
@@ -44,7 +46,7 @@ pub fn act_of(e: Event) -> Act
 {
     match e {
         Event::AdvanceAll(_) => Act::All,
-        Event::AdvanceOne(host, _) => Act::Host(host),
+        Event::AdvanceOne(host, _) => Act::Advance(host),
         Event::Start(host, _) => Act::Host(host),
         Event::Deliver(slot) => Act::Deliver(slot),
         Event::Lose(slot) => Act::Lose(slot),
@@ -191,6 +193,24 @@ pub fn host_step(
     let sent = step.sent;
     if empty < change::messages_in(sent, step.receivers) {
         return host::refused_with(REFUSED_FULL, h);
+    }
+    step
+}
+
+// An advance of one host: 5, 15 and 14.
+pub fn advance_step(s: Settings, e: Event, number: u8, h: Host, low: u64, high: u64) -> Stepped
+    requires { ⌜ (hostOk s h ≡ true) × (low ≤ high) ⌝ }
+    ensures { λ r. ⌜ r ≡ advanceStep s e number h low high ⌝ }
+{
+    if s.n <= number {
+        return host::refused_with(REFUSED_HOST, h);
+    }
+    let step = h.advance_within(s, change::ticks_of(e));
+    if step.answer != DONE {
+        return host::refused_with(step.answer, h);
+    }
+    if !places::spread_ok(s, low, high) {
+        return host::refused_with(REFUSED_SPREAD, h);
     }
     step
 }

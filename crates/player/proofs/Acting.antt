@@ -22,9 +22,10 @@ use Rattle.change.specs.Parts.{targetIn}
 use Rattle.acts.specs.declared.Act.{Act}
 use Rattle.acts.specs.Parts.{actOf, watchedBy, allAnswer, movingWith, placeOf, hostStep, slotIndex}
 use Rattle.acts.specs.Parts.{contentIn, HandedIn, deliverAct, answerWithRoom, loseAnswer}
-use Rattle.acts.specs.Parts.{repeatAnswer, repeatSent, slotWithAnswer, emptyWith}
+use Rattle.acts.specs.Parts.{repeatAnswer, repeatSent, slotWithAnswer, emptyWith, advanceStep}
 use Rattle.acts.proofs.Acts.{Acted, movedHosts, all-acts, host-acts, handed, target-in-cell}
 use Rattle.acts.proofs.Acts.{deliver-refused, deliver-done, lose-acts, repeat-acts}
+use Rattle.acts.proofs.Acts.{advance-acts}
 
 -- an act, told by the values that it left
 pub acted-same : {c : Cell} {e : Event} {a a' : ℕ} {hs hs' : List Host} {ss ss' : List Slot}
@@ -51,6 +52,15 @@ module _ (c : Cell) (z : Sized c) (o : cellOk c ≡ true) (empty : ℕ)
       (step .receivers) empty
   found-host number t g low high n place step q seen most span p k =
       rw (k, p) (host-acts c z o empty m e number t g low high (rw q at seen) most span)
+
+  pub found-advance : (number : ℕ) → actOf e ≡ Act.Advance number → (g low high n place : ℕ)
+      (step : Stepped) → n ≡ c .settings .n → watchedBy e n ≤ g → g ≤ c .settings .n
+      → Span (movedHosts c e) (c .settings .n) g low high → place ≡ placeOf (c .settings .n) number
+      → step ≡ advanceStep (c .settings) e number (getD (c .hosts) place blankHost) low high
+      → Acted c e (step .answer) (set (c .hosts) place (step .host)) (c .slots) 0 (step .sent)
+      (step .receivers) empty
+  found-advance number t g low high n place step q seen most span p k =
+      rw (k, p) (advance-acts c z o empty m e number t g low high (rw q at seen) most span)
 
   -- what stands in the slot that an event is about
   module _ (i index : ℕ) (t : Content) (x : index ≡ slotIndex i)

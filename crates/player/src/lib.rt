@@ -122,6 +122,16 @@ fn put_script(run: &[u8], out: &mut [u8], from: usize, opened: Answered) -> usiz
                 sent = acts::repeat_sent(answer, content);
                 receivers = quorum::single_of(change::target_in(content));
             }
+            Act::Advance(number) => {
+                let who = acts::place_of(s.n, number);
+                let actor = hosts[who];
+                let step = acts::advance_step(s, e, number, actor, low, high);
+                answer = step.answer;
+                let after = step.host;
+                hosts[who] = after;
+                sent = step.sent;
+                receivers = step.receivers;
+            }
         }
         let mut k: usize = 0;
         while k < moving {

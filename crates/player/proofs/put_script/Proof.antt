@@ -52,9 +52,9 @@ use Rattle.listing.specs.declared.Walk.{Walk}
 use Rattle.listing.specs.Parts.{walkedTo}
 use Rattle.player.proofs.Walking.{cellWith, Going, going-turn, going-end, empties-most}
 use Rattle.player.proofs.Walking.{watched-most}
-use Rattle.player.proofs.Acting.{acted-same, found-all, found-host, found-handed}
-use Rattle.player.proofs.Acting.{found-target, found-lost, found-repeated, found-refused}
-use Rattle.player.proofs.Acting.{found-delivered}
+use Rattle.player.proofs.Acting.{acted-same, found-all, found-host, found-advance}
+use Rattle.player.proofs.Acting.{found-handed, found-target, found-lost, found-repeated}
+use Rattle.player.proofs.Acting.{found-refused, found-delivered}
 use Rattle.player.proofs.put_script.Statement.{statement}
 use Rattle.player.proofs.put_script.Tie as tie
 
@@ -191,6 +191,10 @@ moves-on f start hs k x e q b =
 falls : (k n : ℕ) → k < n → n - (k + 1) < n - k
 falls k n h = omega arith
 
+-- and so does one that goes on to a later host
+further : (h n r x : ℕ) → x ≡ r → h + 1 ≤ r → h < n → n - x < n - h
+further h n r x e a b = omega arith
+
 -- ---- at the head of the loop
 
 abbrev begun : At tie.At-loop → At tie.Start
@@ -276,6 +280,16 @@ place-below c =
 place-few : (c : At tie.After-place-of) → c .place-of .result < 9
 place-few c =
     omega (arith, place-below c, numbers (head (spanned (c .before .before .before .before))) .few)
+
+place-below2 : (c : At tie.After-place-of2) →
+    c .place-of2 .result < given (head (spanned (c .before .before .before .before))) .n
+place-below2 c =
+    let l = head (spanned (c .before .before .before .before)) in
+    rw (c .place-of2 .ensures) (place-in (cell l) (sized l) (ok l) _ (l .loop .inv .1) _)
+
+place-few2 : (c : At tie.After-place-of2) → c .place-of2 .result < 9
+place-few2 c =
+    omega (arith, place-below2 c, numbers (head (spanned (c .before .before .before .before))) .few)
 
 index-few : (c : At tie.After-slot-index) → c .slot-index .result < 96
 index-few c = rw (c .slot-index .ensures) (index-in _)
@@ -377,12 +391,18 @@ acted c =
     (told a (w .1 .given .1)) (w .6 .result) (w .8 .result) (w .7 .result) (w .6 .ensures)
     (w .7 .ensures) (w .8 .ensures))
     (w .9) (w .10) (w .11) (w .12) (w .13) (w .14) (w .15))
+    (⊎-elim
     (λ w.
     acted-same
     (found-repeated d z o _ m e _ (w .3 .result) (w .5 .result) (w .3 .ensures) (w .5 .ensures)
     (told a (w .1 .given .1)) (w .6 .result) (w .8 .result) (w .9 .result) (w .7 .result)
     (w .6 .ensures) (w .7 .ensures) (w .8 .ensures) (w .9 .ensures))
-    (w .10) (w .11) (w .12) (w .13) (w .14) (w .15) (w .16))))))
+    (w .10) (w .11) (w .12) (w .13) (w .14) (w .15) (w .16))
+    (λ w.
+    acted-same
+    (found-advance d z o _ m e _ (told a (w .1 .given .1)) _ _ _ _ (w .3 .result) (w .5 .result)
+    refl s (v .1) (v .2) (w .3 .ensures) (w .5 .ensures))
+    (w .7) (w .8) (w .9) (w .10) (w .11) (w .12) (w .13)))))))
     (c .match2 .came)
 
 -- ---- the walk that moves hosts
@@ -774,6 +794,17 @@ single-of-requires c κs =
       numbers l .few,
     )
 
+advance-step-requires : At tie.Need-advance-step-requires
+advance-step-requires c κs =
+    let p = spanned (c .before .before .before .before .before) in
+    let l = head p in
+    let v = p .loop2 .inv in (
+      rw (c .before .place-of2 .ensures)
+          (host-fits (cell l) (sized l) (ok l) _ (l .loop .inv .1) _),
+      span-order (after p) (given l .n) (p .loop2 .g) (p .loop2 .low) (p .loop2 .high) (v .0)
+          (v .2),
+    )
+
 loop3-holds : At tie.Need-loop3-holds
 loop3-holds c =
     let a = acted c in
@@ -790,11 +821,11 @@ moved-by-requires c κs =
     let t = c .before in
     rw (unmoved t) (acted (joined t) .early (t .before .loop3 .k) (t .loop3-test .taken))
 
-mul-hosts-3 : At tie.Need-mul-hosts-3
-mul-hosts-3 c = omega (arith, moving-few (c .before .before))
+mul-hosts-4 : At tie.Need-mul-hosts-4
+mul-hosts-4 c = omega (arith, moving-few (c .before .before))
 
-array-set-from-hosts-3 : At tie.Need-array-set-from-hosts-3
-array-set-from-hosts-3 c = omega (arith, moving-few (c .before .before))
+array-set-from-hosts-4 : At tie.Need-array-set-from-hosts-4
+array-set-from-hosts-4 c = omega (arith, moving-few (c .before .before))
 
 add-k : At tie.Need-add-k
 add-k c = omega (arith, moving-few (c .before .before))
@@ -898,7 +929,8 @@ loop4-less c =
     let next =
     next-is (placing l .match2 .receivers) (l .loop4 .h + 1) (given (placer l) .n)
     (omega (arith, receiver t)) in
-    omega (arith, c .next-in2 .ensures, next .least, receiver t)
+    further (l .loop4 .h) (given (placer l) .n) _ _ (c .next-in2 .ensures) (next .least)
+    (receiver t)
 
 loop4-again : At tie.Need-loop4-again
 loop4-again c =
@@ -1080,12 +1112,19 @@ put-script-spec =
     (λ c κs. search needs)
     (λ c κs. search needs)
     single-of-requires
+    (λ c. search needs)
+    (λ c κs. search needs)
+    (λ c. omega (arith, place-few2 c))
+    (λ c. omega (arith, place-few2 c))
+    advance-step-requires
+    (λ c. omega (arith, place-few2 (c .before .before .before)))
+    (λ c. omega (arith, place-few2 (c .before .before .before)))
     loop3-holds
     mul-host-2
     array-copy-out-host-2
     moved-by-requires
-    mul-hosts-3
-    array-set-from-hosts-3
+    mul-hosts-4
+    array-set-from-hosts-4
     add-k
     loop3-less
     loop3-again
