@@ -86,12 +86,12 @@ class Browser:
         command += [f"--user-data-dir={self.folder}", "about:blank"]
         self.log = open(self.folder / "log", "w")
         self.process = subprocess.Popen(command, stdout=self.log, stderr=self.log)
-        self.count, self.session, self.events = 0, None, []
+        self.count, self.page, self.events = 0, None, []
         try:
             self.socket = Socket(*self.address())
             target = self.call("Target.createTarget", url="about:blank")["targetId"]
             attached = self.call("Target.attachToTarget", targetId=target, flatten=True)
-            self.session = attached["sessionId"]
+            self.page = attached["sessionId"]
             for domain in ["Page", "Runtime", "Network", "Log"]:
                 self.call(f"{domain}.enable")
         except BaseException:
@@ -113,8 +113,8 @@ class Browser:
     def call(self, method, **parameters):
         self.count += 1
         message = {"id": self.count, "method": method, "params": parameters}
-        if self.session:
-            message["sessionId"] = self.session
+        if self.page:
+            message["sessionId"] = self.page
         self.socket.send(json.dumps(message))
         while True:
             answer = json.loads(self.socket.receive())
