@@ -6,9 +6,10 @@
  * x86-64 Linux. No function allocates, blocks, or keeps a pointer after it
  * returns.
  *
- * `length` and `numbers` must not be NULL. A byte slice may be NULL if its
- * length is 0. No two arguments may overlap in memory. What `out`, `numbers`
- * and `*length` hold before a call is not looked at: they need no value.
+ * `length`, `offset` and `numbers` must not be NULL. A byte slice may be NULL if
+ * its length is 0. No two arguments may overlap in memory. What `out`,
+ * `numbers`, `*length` and `*offset` hold before a call is not looked at: they
+ * need no value.
  *
  * A host number, as n, is 8 bits wide and a kind or a set of receivers 16. C
  * cuts a larger number down to that before the call, so that a host 256 arrives
@@ -30,11 +31,12 @@ enum lease_frame_answer {
     LEASE_FRAME_CELL = 1,   /* n is not 1 to 9 */
     LEASE_FRAME_CUT = 2,    /* under 4 bytes, or fewer than the frame's length */
     LEASE_FRAME_KIND = 3,   /* not one of the six kinds */
-    LEASE_FRAME_LENGTH = 4, /* the length field is not that kind's */
+    LEASE_FRAME_LENGTH = 4, /* the length field is above that kind's length */
     LEASE_FRAME_HOST = 5,   /* a host number of n or more */
     LEASE_FRAME_TICK = 6,   /* a tick or an end above its limit */
     LEASE_FRAME_PARTY = 7,  /* sender or target is not the ballot's host */
-    LEASE_FRAME_ROOM = 8    /* lent bytes too few for what is written */
+    LEASE_FRAME_ROOM = 8,   /* lent bytes too few for what is written */
+    LEASE_FRAME_SHORT = 17  /* the length field is below that kind's length */
 };
 
 /*
@@ -80,12 +82,29 @@ enum lease_frame_size {
  * Reads the frame at the start of `bytes`, in a cell of n hosts. Bytes after
  * the frame are not looked at.
  *
- * Done: `numbers` holds the message, with 0 for those its kind lacks, and
- * *length is the frame's length. Refused: *length is 0 and `numbers` is as it
- * was. Refusals are checked in the order 1, 2 (under 4 bytes), 3, 4, 2, 5, 6, 7.
+ * Done: `numbers` holds the message, with 0 for those its kind lacks, *length
+ * is the frame's length and *offset is 0. Refused: *length is 0, `numbers` is as
+ * it was and *offset says where. Refusals are checked in the order 1, 2 (under 4
+ * bytes), 3, 4 or 17, 2, 5, 6, 7.
+ *
+ * The offset of a refusal is that of the first field in `bytes` that gives its
+ * number, the one at the lowest offset:
+ *
+ *   1      0, since n does not stand in the bytes
+ *   2      bytes_len, where the next byte would have to be
+ *   3      2, the kind
+ *   4, 17  0, the length
+ *   5      the first host number of n or more: sender 4, target 5, ballot host
+ *          14; in kind 3 accepted host 23 and owner 24, in 4 and 6 owner 15
+ *   6      the first tick or end above its limit: ballot tick 6; in kind 3
+ *          accepted tick 15 and end 25, in 4 and 6 end 16
+ *   7      the party that should have been the ballot's host: target 5 in a
+ *          response, sender 4 in another kind
+ *
+ * So it lies within the bytes, but for 2, and for 1 if there are none.
  */
 uint8_t lease_frame_read(uint8_t n, const uint8_t *bytes, size_t bytes_len,
-        uint64_t numbers[LEASE_FRAME_NUMBERS], size_t *length);
+        uint64_t numbers[LEASE_FRAME_NUMBERS], size_t *length, size_t *offset);
 
 /*
  * Writes a message as a frame to the start of `out`. `end` is the keepers' end

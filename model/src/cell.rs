@@ -19,6 +19,44 @@ pub struct Settings {
     pub clock: u64,
 }
 
+/// One of them.
+#[derive(Clone, Copy, Debug, PartialEq, Eq)]
+pub enum Setting {
+    Hosts,
+    Longest,
+    Spread,
+    Clock,
+}
+
+impl Setting {
+    /// The number by which opening refuses it.
+    pub fn refusal(self) -> u8 {
+        match self {
+            Setting::Hosts | Setting::Longest | Setting::Spread => CELL,
+            Setting::Clock => TICK,
+        }
+    }
+}
+
+impl Settings {
+    /// The first that opening refuses, if there is one: 'Opening 1, 6.'
+    pub fn refused(self) -> Option<Setting> {
+        if !(1..=MOST_HOSTS).contains(&self.n) {
+            return Some(Setting::Hosts);
+        }
+        if !(1..=LONGEST).contains(&self.longest) {
+            return Some(Setting::Longest);
+        }
+        if self.spread > self.longest - 1 {
+            return Some(Setting::Spread);
+        }
+        if self.clock > LAST_TICK {
+            return Some(Setting::Clock);
+        }
+        None
+    }
+}
+
 #[derive(Clone, Copy, Debug, PartialEq, Eq)]
 pub enum Event {
     AdvanceAll { ticks: u32 },
@@ -85,16 +123,12 @@ pub struct Cell {
 }
 
 impl Cell {
-    /// 'Opening 1, 6.'
-    pub fn open(settings: Settings, build: Build) -> Result<Cell, u8> {
+    /// The cell, or the setting that is refused.
+    pub fn open(settings: Settings, build: Build) -> Result<Cell, Setting> {
+        if let Some(setting) = settings.refused() {
+            return Err(setting);
+        }
         let Settings { n, longest, spread, clock } = settings;
-        let in_range = (1..=MOST_HOSTS).contains(&n) && (1..=LONGEST).contains(&longest);
-        if !in_range || spread >= longest {
-            return Err(CELL);
-        }
-        if clock > LAST_TICK {
-            return Err(TICK);
-        }
         let (longest, spread) = (u64::from(longest), u64::from(spread));
         let rules = Rules { n, longest, spread, build };
         let hosts = (0..n).map(|number| Host::new(&rules, number, clock)).collect();

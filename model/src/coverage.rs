@@ -5,8 +5,8 @@ use crate::cell::Cell;
 use crate::host::{Case, CASES};
 use crate::listing::Watch;
 use crate::message::Holder;
-use crate::record::{ADVANCE_ALL, RESTART};
-use crate::refusal::NUMBERS;
+use crate::record::{ADVANCE_ALL, RESTART, SETTINGS_LENGTH};
+use crate::refusal::{Fault, NUMBERS};
 
 const KINDS: usize = (RESTART - ADVANCE_ALL + 1) as usize;
 
@@ -21,8 +21,20 @@ const POSSIBLE: [&[usize]; KINDS] = [
     &[0, 5],
 ];
 
-/// The numbers that a run file can stop by.
-const STOPS: [usize; 6] = [1, 2, 3, 4, 6, 16];
+/// The numbers that a run file can stop by, with the offsets that each can have; a cut as far as
+/// events go.
+const STOPS: [(usize, &[usize]); 7] = [
+    (1, &[4, 5, 9]),
+    (2, &[0, 1, 2, 3, 4, 5, 6, 7, 8]),
+    (3, &[2]),
+    (4, &[0]),
+    (6, &[13]),
+    (16, &[0]),
+    (17, &[0]),
+];
+
+/// An offset is within the longest record, but for a build that does not look for its end.
+const OFFSETS: usize = SETTINGS_LENGTH;
 
 /// How often each thing must be met for a comparison to count.
 const LEAST_ANSWERS: u64 = 500;
@@ -35,7 +47,7 @@ pub struct Coverage {
     pub files: u64,
     pub events: u64,
     pub answers: [[u64; NUMBERS]; KINDS],
-    stops: [u64; NUMBERS],
+    stops: [[u64; OFFSETS]; NUMBERS],
     pub cases: [u64; CASES],
     named: u64,
     renewed: u64,
@@ -52,7 +64,9 @@ impl Coverage {
         for (row, others) in self.answers.iter_mut().zip(&other.answers) {
             add_all(row, others);
         }
-        add_all(&mut self.stops, &other.stops);
+        for (row, others) in self.stops.iter_mut().zip(&other.stops) {
+            add_all(row, others);
+        }
         add_all(&mut self.cases, &other.cases);
     }
 
@@ -69,8 +83,11 @@ impl Coverage {
                 want(format!("answer {} to {}", answer, kind), row[answer], LEAST_ANSWERS);
             }
         }
-        for number in STOPS {
-            want(format!("stop by {}", number), self.stops[number], LEAST_STOPS);
+        for (number, offsets) in STOPS {
+            for &offset in offsets {
+                let met = self.stops[number][offset];
+                want(format!("stop by {} at {}", number, offset), met, LEAST_STOPS);
+            }
         }
         for case in Case::ALL {
             want(format!("{:?}", case), self.cases[case as usize], LEAST_CASES);
@@ -88,7 +105,11 @@ impl Coverage {
         for (row, kind) in self.answers.iter().zip(ADVANCE_ALL..) {
             println!("answers to {}: {}", kind, numbered(row));
         }
-        println!("stops: {}", numbered(&self.stops));
+        for (number, offsets) in self.stops.iter().enumerate() {
+            if offsets.iter().any(|&times| times > 0) {
+                println!("stops by {}, at: {}", number, numbered(offsets));
+            }
+        }
         for case in Case::ALL {
             println!("{:?}: {}", case, self.cases[case as usize]);
         }
@@ -160,7 +181,10 @@ impl Watch for Onlooker<'_> {
         }
     }
 
-    fn stop(&mut self, number: u8) {
-        self.coverage.stops[usize::from(number)] += 1;
+    fn stop(&mut self, fault: Fault) {
+        let offsets = &mut self.coverage.stops[usize::from(fault.number)];
+        if let Some(times) = offsets.get_mut(fault.offset) {
+            *times += 1;
+        }
     }
 }

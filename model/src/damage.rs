@@ -2,14 +2,14 @@
 //! long, empty, or of any bytes.
 
 use crate::builds::RIGHT;
-use crate::cell::{Settings, LAST_TICK, LONGEST};
+use crate::cell::{Event, Settings, LAST_TICK, LONGEST};
 use crate::generate;
 use crate::listing::LONGEST_FILE;
 use crate::random::Random;
-use crate::record::{write_settings, SETTINGS_LENGTH};
+use crate::record::{write_event, write_settings, HEAD, SETTINGS_LENGTH};
 
 /// How many kinds of damage there are.
-pub const DAMAGES: u64 = 14;
+pub const DAMAGES: u64 = 15;
 
 /// A damaged file of a seed; seeds that follow one another go through all kinds.
 pub fn run(seed: u64) -> Vec<u8> {
@@ -35,7 +35,8 @@ pub fn damage(kind: u64, random: &mut Random, bytes: &mut Vec<u8>) {
         10 => first_record(random, bytes),
         11 => one_byte(random, bytes),
         12 => two_faults(random, bytes),
-        _ => cut_head(random, bytes),
+        13 => cut_head(random, bytes),
+        _ => cut_fields(random, bytes),
     }
 }
 
@@ -71,6 +72,19 @@ fn cut(random: &mut Random, bytes: &mut Vec<u8>) {
 fn cut_head(random: &mut Random, bytes: &mut Vec<u8>) {
     let at = later_record(random, bytes) + random.below(5) as usize;
     bytes.truncate(at);
+}
+
+/// Cut behind the first four bytes of one of the longest records of events.
+fn cut_fields(random: &mut Random, bytes: &mut Vec<u8>) {
+    let (host, ticks) = (random.below(3) as u8, random.below(100) as u32);
+    let at = later_record(random, bytes);
+    bytes.truncate(at);
+    match random.below(2) {
+        0 => write_event(bytes, Event::AdvanceOne { host, ticks }),
+        _ => write_event(bytes, Event::Start { host, duration: ticks }),
+    }
+    let left = random.between(HEAD as u64, (bytes.len() - at) as u64 - 1);
+    bytes.truncate(at + left as usize);
 }
 
 fn a_kind(random: &mut Random) -> u64 {
@@ -127,21 +141,28 @@ fn above_last_tick(random: &mut Random) -> u64 {
     }
 }
 
-/// n, T or S outside its range, and now and then the clock as well.
+/// n, T or S outside its range, and now and then another of them, or the clock, as well.
 fn refused_by_1(random: &mut Random) -> Settings {
     let mut settings = generate::settings(random);
+    put_outside(random, &mut settings);
+    if random.chance(300) {
+        put_outside(random, &mut settings);
+    }
+    if random.chance(300) {
+        settings.clock = above_last_tick(random);
+    }
+    settings
+}
+
+fn put_outside(random: &mut Random, settings: &mut Settings) {
     match random.below(6) {
         0 => settings.n = 0,
         1 => settings.n = 10,
         2 => settings.n = random.between(10, 255) as u8,
         3 => settings.longest = 0,
         4 => settings.longest = random.between(u64::from(LONGEST) + 1, 0xFFFF_FFFF) as u32,
-        _ => settings.spread = settings.longest + random.below(2) as u32,
+        _ => settings.spread = settings.longest.saturating_add(random.below(2) as u32),
     }
-    if random.chance(300) {
-        settings.clock = above_last_tick(random);
-    }
-    settings
 }
 
 fn refused_by_6(random: &mut Random) -> Settings {

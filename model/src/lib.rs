@@ -1,5 +1,6 @@
-//! Document 01 written a second time, from its sentences alone: cells, hosts, run files and their
-//! listings, the wrong builds behind switches, and seeded run files.
+//! Document 01 written a second time, with document 02's changes, from their sentences alone:
+//! cells, hosts, run files and their listings, the wrong builds behind switches, and seeded run
+//! files.
 
 pub mod builds;
 pub mod cell;

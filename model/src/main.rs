@@ -1,6 +1,6 @@
-//! Document 01 written a second time, from its sentences alone, to compare the proved bench with.
-//! Without arguments it is a second bench: a run file from standard input, its listing to standard
-//! output.
+//! Document 01 written a second time, with document 02's changes, from their sentences alone, to
+//! compare the proved bench with. Without arguments it is a second bench: a run file from standard
+//! input, its listing to standard output.
 
 use std::env;
 use std::io::{self, Read, Write};

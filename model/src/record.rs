@@ -1,8 +1,10 @@
 //! The records of a run file, read from bytes and written to them.
 
+use std::cmp::Ordering;
+
 use crate::builds::Build;
-use crate::cell::{Event, Settings};
-use crate::refusal::{CUT, KIND, LENGTH};
+use crate::cell::{Event, Setting, Settings};
+use crate::refusal::{Fault, CUT, KIND, LENGTH, SHORT};
 
 pub const SETTINGS: u16 = 100;
 pub const ADVANCE_ALL: u16 = 101;
@@ -15,6 +17,9 @@ pub const RESTART: u16 = 107;
 
 /// Length and kind, two bytes each.
 pub const HEAD: usize = 4;
+const LENGTH_AT: usize = 0;
+const KIND_AT: usize = 2;
+
 pub const SETTINGS_LENGTH: usize = 21;
 
 /// The length of a settings record, the only kind that may come first.
@@ -47,28 +52,51 @@ fn u64_at(bytes: &[u8], at: usize) -> u64 {
     u64::from(u32_at(bytes, at)) | u64::from(u32_at(bytes, at + 4)) << 32
 }
 
-/// A record's kind, its fields and how far the next record is. 'Record faults are 2, 3, 4 in
-/// reading's order': 2 (under 4 bytes), 3, 4, 2.
+/// 17 or 4: a length field that says less, or more, than its kind's length.
+fn length_fault(told: usize, length: usize) -> Option<Fault> {
+    match told.cmp(&length) {
+        Ordering::Less => Some(Fault { number: SHORT, offset: LENGTH_AT }),
+        Ordering::Equal => None,
+        Ordering::Greater => Some(Fault { number: LENGTH, offset: LENGTH_AT }),
+    }
+}
+
+/// A record's kind, its fields and how far the next record is; it is handed the file from the
+/// record on. 'Record faults are 2, 3, 4 in reading's order': 2 (under 4 bytes), 3, 4 or 17, 2.
 fn record(
     bytes: &[u8],
     length_of: fn(u16) -> Option<usize>,
     build: Build,
-) -> Result<(u16, &[u8], usize), u8> {
+) -> Result<(u16, &[u8], usize), Fault> {
+    let cut = Fault { number: CUT, offset: bytes.len() };
     if bytes.len() < HEAD {
-        return Err(CUT);
+        return Err(cut);
     }
-    let told = usize::from(u16_at(bytes, 0));
-    let kind = u16_at(bytes, 2);
-    let length = length_of(kind).ok_or(KIND)?;
-    if told != length && !build.skips_by_the_length_field {
-        return Err(LENGTH);
+    let told = usize::from(u16_at(bytes, LENGTH_AT));
+    let kind = u16_at(bytes, KIND_AT);
+    let length = length_of(kind).ok_or(Fault { number: KIND, offset: KIND_AT })?;
+    match length_fault(told, length) {
+        Some(fault) if !build.skips_by_the_length_field => return Err(fault),
+        _ => {}
     }
-    let fields = bytes.get(HEAD..length.max(told)).ok_or(CUT)?;
+    let fields = bytes.get(HEAD..length.max(told)).ok_or(cut)?;
     Ok((kind, fields, told.max(HEAD)))
 }
 
+/// What a run file stops by where opening refuses a setting; the settings record has them behind
+/// its head, one after the other.
+pub fn setting_fault(setting: Setting) -> Fault {
+    let before = match setting {
+        Setting::Hosts => 0,
+        Setting::Longest => 1,
+        Setting::Spread => 1 + 4,
+        Setting::Clock => 1 + 4 + 4,
+    };
+    Fault { number: setting.refusal(), offset: HEAD + before }
+}
+
 /// The settings, from a file's first record.
-pub fn settings(bytes: &[u8], build: Build) -> Result<(Settings, usize), u8> {
+pub fn settings(bytes: &[u8], build: Build) -> Result<(Settings, usize), Fault> {
     let (_, fields, length) = record(bytes, first_length, build)?;
     let settings = Settings {
         n: fields[0],
@@ -80,7 +108,7 @@ pub fn settings(bytes: &[u8], build: Build) -> Result<(Settings, usize), u8> {
 }
 
 /// The event that a later record stands for, its kind and its length.
-pub fn event(bytes: &[u8], build: Build) -> Result<(Event, u16, usize), u8> {
+pub fn event(bytes: &[u8], build: Build) -> Result<(Event, u16, usize), Fault> {
     let (kind, fields, length) = record(bytes, event_length, build)?;
     let first = fields[0];
     let event = match kind {

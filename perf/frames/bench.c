@@ -38,15 +38,16 @@ static struct {
     uint8_t bytes[LEASE_FRAME_LONGEST_SET];
 } result;
 
-/* Calls one side once for each message, and adds up lengths and answers. */
+/* Calls one side once for each message, and adds up lengths, offsets and answers. */
 typedef size_t pass(const struct implementation *side);
 
 static size_t read_pass(const struct implementation *side)
 {
-    size_t sum = 0, length;
+    size_t sum = 0, length, offset;
     for (int i = 0; i < MESSAGES; i++) {
-        sum += side->read(N, given.frames[i], given.frame_length, result.numbers, &length);
-        sum += length;
+        sum += side->read(N, given.frames[i], given.frame_length, result.numbers,
+                &length, &offset);
+        sum += length + offset;
     }
     return sum;
 }

@@ -123,26 +123,66 @@ static inline uint8_t check(uint8_t n, const struct message *message,
     return LEASE_FRAME_DONE;
 }
 
+/* Where the first host number of n or more stands; there is one. */
+static size_t host_fault_at(uint8_t n, const uint8_t *frame, size_t length)
+{
+    if (frame[4] >= n)
+        return 4;
+    if (frame[5] >= n)
+        return 5;
+    if (frame[14] >= n)
+        return 14;
+    if (length == OWNER_LENGTH)
+        return 15;
+    return frame[23] >= n ? 23 : 24;
+}
+
+/* Where the first tick or end above its limit stands; there is one. */
+static size_t tick_fault_at(const uint8_t *frame, size_t length)
+{
+    if (load64(frame + 6) > LEASE_FRAME_LAST_TICK)
+        return 6;
+    if (length == OWNER_LENGTH)
+        return 16;
+    return load64(frame + 15) > LEASE_FRAME_LAST_TICK ? 15 : 25;
+}
+
+/* Where a message that is refused by 5, 6 or 7 is at fault. */
+static size_t fault_at(uint8_t answer, uint8_t n, const uint8_t *frame, size_t length)
+{
+    if (answer == LEASE_FRAME_HOST)
+        return host_fault_at(n, frame, length);
+    if (answer == LEASE_FRAME_TICK)
+        return tick_fault_at(frame, length);
+    return is_response(load16(frame + 2)) ? 5 : 4;
+}
+
+static uint8_t refuse(uint8_t answer, size_t at, size_t *offset)
+{
+    *offset = at;
+    return answer;
+}
+
 uint8_t hand_read(uint8_t n, const uint8_t *bytes, size_t bytes_len,
-        uint64_t numbers[LEASE_FRAME_NUMBERS], size_t *length)
+        uint64_t numbers[LEASE_FRAME_NUMBERS], size_t *length, size_t *offset)
 {
     *length = 0;
     if (n < 1 || n > LEASE_FRAME_HOSTS)
-        return LEASE_FRAME_CELL;
+        return refuse(LEASE_FRAME_CELL, 0, offset);
     if (bytes_len < 4)
-        return LEASE_FRAME_CUT;
+        return refuse(LEASE_FRAME_CUT, bytes_len, offset);
     size_t frame = length_of(load16(bytes + 2));
     if (frame == 0)
-        return LEASE_FRAME_KIND;
+        return refuse(LEASE_FRAME_KIND, 2, offset);
     if (load16(bytes) != frame)
-        return LEASE_FRAME_LENGTH;
+        return refuse(load16(bytes) < frame ? LEASE_FRAME_SHORT : LEASE_FRAME_LENGTH, 0, offset);
     if (bytes_len < frame)
-        return LEASE_FRAME_CUT;
+        return refuse(LEASE_FRAME_CUT, bytes_len, offset);
     struct message message;
     load_frame(bytes, frame, &message);
     uint8_t answer = check(n, &message, bytes[5] < n, bytes[5] == message.ballot_host);
     if (answer != LEASE_FRAME_DONE)
-        return answer;
+        return refuse(answer, fault_at(answer, n, bytes, frame), offset);
     numbers[LEASE_FRAME_AT_KIND] = message.kind;
     numbers[LEASE_FRAME_AT_SENDER] = message.sender;
     numbers[LEASE_FRAME_AT_TARGET] = bytes[5];
@@ -153,6 +193,7 @@ uint8_t hand_read(uint8_t n, const uint8_t *bytes, size_t bytes_len,
     numbers[LEASE_FRAME_AT_OWNER] = message.owner;
     numbers[LEASE_FRAME_AT_END] = message.end;
     *length = frame;
+    *offset = 0;
     return LEASE_FRAME_DONE;
 }
 

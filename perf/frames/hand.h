@@ -8,7 +8,7 @@
 #include "lease_frame.h"
 
 uint8_t hand_read(uint8_t n, const uint8_t *bytes, size_t bytes_len,
-        uint64_t numbers[LEASE_FRAME_NUMBERS], size_t *length);
+        uint64_t numbers[LEASE_FRAME_NUMBERS], size_t *length, size_t *offset);
 
 uint8_t hand_write(uint8_t n, uint16_t kind, uint8_t sender, uint8_t target,
         uint64_t ballot_tick, uint8_t ballot_host,

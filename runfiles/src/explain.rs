@@ -15,8 +15,9 @@ usage: runfile explain [RUNFILE] [-o TEXT] [--bench PATH | --wrong NAME]
 
 At the left stands the bench's listing: for each event its place, kind and answer, this one with
 its word, and for each host the holder that it names. Then the event as `make` reads it, and what
-it was: which message went from whom to whom, and what came of it. Each line of the listing is
-compared with the model's, and a DISAGREEMENT is said to be one.
+it was: which message went from whom to whom, and what came of it. Of a stop it says why, and
+(at 2) is the byte of a field in its record. Each line of the listing is compared with the model's,
+and a DISAGREEMENT is said to be one.
 
   RUNFILE        the run file; standard input where it is left out
   -o TEXT        where to write it; standard output where it is left out

@@ -11,13 +11,13 @@ use model::coverage::Coverage;
 use model::damage::{damage, DAMAGES};
 use model::host::Case;
 use model::random::Random;
-use model::record::{write_settings, ADVANCE_ALL, RESTART};
+use model::record::{ADVANCE_ALL, RESTART};
 use model::refusal::DONE;
 use model::{directed, generate};
 
 use crate::arguments::Given;
 use crate::bench::Sides;
-use crate::reading::Reading;
+use crate::reading::{why_refused, Reading};
 use crate::shorten::shortened;
 use crate::source::{self, Line};
 use crate::{files, lines, show, terminal, words, Done, Outcome};
@@ -96,10 +96,12 @@ fn settings_of(told: &str) -> Result<Settings, String> {
         Ok(_) => return Err(format!("settings: expected four numbers, found `{}`", told)),
         Err(fault) => return Err(format!("settings: {}", fault)),
     };
-    let mut bytes = Vec::new();
-    write_settings(&mut bytes, settings);
-    match Reading::of(&bytes).unopened() {
-        Some(stop) => Err(format!("settings: opening refuses `{}`: {}", told, stop.reason())),
+    match settings.refused() {
+        Some(setting) => {
+            let refusal = words::refusal(setting.refusal());
+            let (what, wrong) = why_refused(settings, setting);
+            Err(format!("settings: opening refuses `{}`: {}: {} {}", told, refusal, what, wrong))
+        }
         None => Ok(settings),
     }
 }

@@ -12,7 +12,8 @@ usage: runfile show [RUNFILE] [-o TEXT]
   -o TEXT  the text; standard output where it is left out
 
 `make` gives of that text the same run file, byte for byte. Where the bench stops, a comment
-says at which byte, by which number and why; what it does not read follows as `bytes`.
+says at which byte, by which number and why, and (at 2) is the byte of a field in its record;
+what it does not read follows as `bytes`.
 ";
 
 /// So many bytes stand in one line.

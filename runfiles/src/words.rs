@@ -2,9 +2,10 @@
 
 use model::cell::Settings;
 use model::message::{Ballot, Body, Holder, Lease, Message};
+use model::refusal::NUMBERS;
 
-/// Document 01's 'Refusals by number'.
-pub const ANSWERS: [&str; 17] = [
+/// Document 01's 'Refusals by number', and document 02's.
+pub const ANSWERS: [&str; NUMBERS] = [
     "done",
     "cell",
     "cut",
@@ -22,6 +23,7 @@ pub const ANSWERS: [&str; 17] = [
     "spread",
     "clock",
     "long",
+    "short length",
 ];
 
 /// The word of an answer; a number that is none has no word.
@@ -174,6 +176,7 @@ mod tests {
     fn every_refusal_has_its_word() {
         assert_eq!(refusal(model::refusal::WAITING), "9 waiting");
         assert_eq!(refusal(model::refusal::LONG), "16 long");
-        assert_eq!(answer(17), "?");
+        assert_eq!(refusal(model::refusal::SHORT), "17 short length");
+        assert_eq!(answer(NUMBERS), "?");
     }
 }

@@ -1,7 +1,8 @@
 /*
  * Compares the library with the second implementation on seeded random
- * buffers and messages, whole and damaged: answers, lengths, numbers and all
- * bytes must be the same. What reads is written again, and must come back.
+ * buffers and messages, whole and damaged: answers, lengths, offsets, numbers
+ * and all bytes must be the same. What reads is written again, and must come
+ * back.
  *
  * The argument, if any, is another seed.
  */
@@ -28,12 +29,29 @@ static const char *const direction_name[DIRECTIONS] = {"reading", "writing", "wr
 enum {
     ANYWHERE = 1 << LEASE_FRAME_DONE | 1 << LEASE_FRAME_CELL | 1 << LEASE_FRAME_KIND
             | 1 << LEASE_FRAME_HOST | 1 << LEASE_FRAME_TICK | 1 << LEASE_FRAME_PARTY,
-    IN_READING = ANYWHERE | 1 << LEASE_FRAME_CUT | 1 << LEASE_FRAME_LENGTH,
+    IN_READING = ANYWHERE | 1 << LEASE_FRAME_CUT | 1 << LEASE_FRAME_LENGTH
+            | 1 << LEASE_FRAME_SHORT,
     IN_WRITING = ANYWHERE | 1 << LEASE_FRAME_ROOM
 };
 static const unsigned possible[DIRECTIONS] = {IN_READING, IN_WRITING, IN_WRITING};
 
-static unsigned long seen[DIRECTIONS][LEASE_FRAME_ROOM + 1];
+enum { ANSWERS = LEASE_FRAME_SHORT + 1 };
+
+static unsigned long seen[DIRECTIONS][ANSWERS];
+
+/* The fields that readings are refused at: 5, 6 and 7 have several. */
+static const struct {
+    uint8_t answer;
+    size_t offset;
+} fields[] = {
+    {LEASE_FRAME_KIND, 2}, {LEASE_FRAME_LENGTH, 0}, {LEASE_FRAME_SHORT, 0},
+    {LEASE_FRAME_HOST, 4}, {LEASE_FRAME_HOST, 5}, {LEASE_FRAME_HOST, 14},
+    {LEASE_FRAME_HOST, 15}, {LEASE_FRAME_HOST, 23}, {LEASE_FRAME_HOST, 24},
+    {LEASE_FRAME_TICK, 6}, {LEASE_FRAME_TICK, 15}, {LEASE_FRAME_TICK, 16},
+    {LEASE_FRAME_TICK, 25}, {LEASE_FRAME_PARTY, 4}, {LEASE_FRAME_PARTY, 5},
+};
+
+static unsigned long seen_at[ANSWERS][LEASE_FRAME_LONGEST];
 
 static const struct implementation sides[2] = {
     {"library", lease_frame_read, lease_frame_write, lease_frame_write_to},
@@ -44,6 +62,7 @@ static const struct implementation sides[2] = {
 struct outcome {
     uint8_t answer;
     size_t length;
+    size_t offset;          /* a writing leaves it */
     uint64_t numbers[1 + LEASE_FRAME_NUMBERS + 1];
     uint8_t bytes[GUARD + LENT + GUARD];
 };
@@ -195,7 +214,8 @@ static void print_bytes(const char *what, const void *from, size_t count)
 
 static void print_outcome(const struct outcome *outcome, const char *name)
 {
-    fprintf(stderr, "  %s: answer %u, length %zu\n", name, outcome->answer, outcome->length);
+    fprintf(stderr, "  %s: answer %u, length %zu, offset %zu\n",
+            name, outcome->answer, outcome->length, outcome->offset);
     print_bytes("numbers", outcome->numbers, sizeof outcome->numbers);
     print_bytes("bytes", outcome->bytes, sizeof outcome->bytes);
 }
@@ -214,6 +234,7 @@ static void fail(enum direction direction, uint8_t n, size_t lent, const char *w
 static void start_outcomes(const uint8_t *bytes)
 {
     outcomes[0].length = (size_t)random_number();
+    outcomes[0].offset = (size_t)random_number();
     for (size_t i = 0; i < sizeof outcomes[0].numbers / sizeof outcomes[0].numbers[0]; i++)
         outcomes[0].numbers[i] = random_number();
     if (bytes != NULL)
@@ -228,6 +249,8 @@ static void compare_outcomes(enum direction direction, uint8_t n, size_t lent)
         fail(direction, n, lent, "answers differ");
     if (library->length != second->length)
         fail(direction, n, lent, "lengths differ");
+    if (library->offset != second->offset)
+        fail(direction, n, lent, "offsets differ");
     if (memcmp(library->numbers, second->numbers, sizeof library->numbers) != 0)
         fail(direction, n, lent, "numbers differ");
     if (memcmp(library->bytes, second->bytes, sizeof library->bytes) != 0)
@@ -241,9 +264,11 @@ static void read_both(uint8_t n, const uint8_t *bytes, size_t count)
     for (int side = 0; side < 2; side++) {
         struct outcome *outcome = &outcomes[side];
         outcome->answer = sides[side].read(n, outcome->bytes + GUARD, count,
-                outcome->numbers + 1, &outcome->length);
+                outcome->numbers + 1, &outcome->length, &outcome->offset);
     }
     compare_outcomes(READING, n, count);
+    if (outcomes[0].offset < LEASE_FRAME_LONGEST)
+        seen_at[outcomes[0].answer][outcomes[0].offset]++;
 }
 
 /* Writes to the target, or to a set if `receivers` is not NULL. */
@@ -332,10 +357,25 @@ static void compare_writing(void)
 static bool all_seen(enum direction direction)
 {
     bool all = true;
-    for (unsigned answer = 0; answer <= LEASE_FRAME_ROOM; answer++) {
+    for (unsigned answer = 0; answer < ANSWERS; answer++) {
         if ((possible[direction] >> answer & 1) && seen[direction][answer] < MANY) {
             fprintf(stderr, "compare: %s was answered %u only %lu times\n",
                     direction_name[direction], answer, seen[direction][answer]);
+            all = false;
+        }
+    }
+    return all;
+}
+
+/* Whether it made enough of every field that a reading can be refused at. */
+static bool all_fields_seen(void)
+{
+    bool all = true;
+    for (size_t i = 0; i < sizeof fields / sizeof fields[0]; i++) {
+        unsigned long times = seen_at[fields[i].answer][fields[i].offset];
+        if (times < MANY) {
+            fprintf(stderr, "compare: reading was answered %u at %zu only %lu times\n",
+                    fields[i].answer, fields[i].offset, times);
             all = false;
         }
     }
@@ -355,5 +395,6 @@ int main(int count, char **arguments)
     random_state = seed;
     repeat(BUFFERS, compare_reading);
     repeat(MESSAGES, compare_writing);
-    return all_seen(READING) && all_seen(WRITING) && all_seen(WRITING_TO_A_SET) ? 0 : 1;
+    bool all = all_seen(READING) && all_seen(WRITING) && all_seen(WRITING_TO_A_SET);
+    return all && all_fields_seen() ? 0 : 1;
 }

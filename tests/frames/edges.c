@@ -1,7 +1,7 @@
 /*
  * The edges of reading and writing frames: every limit from both sides, every
- * cut, every length, kind, set and room, the order of refusals, and that no
- * byte outside what was lent is touched.
+ * cut, every length, kind, set and room, the order of refusals, the offset of
+ * each refused reading, and that no byte outside what was lent is touched.
  *
  * All of it is tried twice: with what is lent to a call at the end of a page,
  * and at the start of one. The pages before and after cannot be touched, and on
@@ -52,6 +52,36 @@ static const int tick_places[] = {LEASE_FRAME_AT_BALLOT_TICK, LEASE_FRAME_AT_ACC
         LEASE_FRAME_AT_END};
 enum { HOST_PLACES = 5, TICK_PLACES = 3 };
 
+/* Where frames have their length, and those of each kind their numbers; 0 for what it lacks. */
+enum { LENGTH_OFFSET = 0, KIND_OFFSET = 2 };
+static const size_t offsets[KINDS][LEASE_FRAME_NUMBERS] = {
+    {KIND_OFFSET, 4, 5, 6, 14},
+    {KIND_OFFSET, 4, 5, 6, 14},
+    {KIND_OFFSET, 4, 5, 6, 14, 15, 23, 24, 25},
+    {KIND_OFFSET, 4, 5, 6, 14, 0, 0, 15, 16},
+    {KIND_OFFSET, 4, 5, 6, 14},
+    {KIND_OFFSET, 4, 5, 6, 14, 0, 0, 15, 16},
+};
+
+/* What a call is to answer, and a reading with which offset. */
+struct verdict {
+    uint8_t answer;
+    size_t offset;
+};
+
+static const struct verdict done = {LEASE_FRAME_DONE, 0};
+
+static struct verdict refused(uint8_t answer, size_t offset)
+{
+    return (struct verdict){answer, offset};
+}
+
+/* Refused for the number at a place of a frame. */
+static struct verdict refused_at(uint8_t answer, const uint64_t *numbers, int place)
+{
+    return refused(answer, offsets[numbers[LEASE_FRAME_AT_KIND] - 1][place]);
+}
+
 __attribute__((noreturn, format(printf, 1, 2)))
 static void fail(const char *format, ...)
 {
@@ -77,7 +107,7 @@ enum placement { PAGE_END, PAGE_START, HEAP };
 static enum placement placement;
 
 /* What is lent to a call: each part has a page or a heap block to itself. */
-enum part { BYTES, NUMBERS, LENGTH, PARTS };
+enum part { BYTES, NUMBERS, LENGTH, OFFSET, PARTS };
 
 /* The part's page, between two that cannot be read or written. */
 static uint8_t *page_of(enum part part)
@@ -140,35 +170,59 @@ static void compare_result(const char *what, const uint64_t *numbers, uint8_t an
                 answer, length, expected_answer, expected_length);
 }
 
-/* Reads lent bytes; `numbers` is the message if any is given. */
-static void expect_read(const char *what, uint8_t n, const uint8_t *bytes, size_t count,
-        const uint64_t *numbers, uint8_t expected_answer)
+/* The offset of a reading: within the bytes, but for 1 and 2. */
+static void compare_offset(const char *what, const uint64_t *numbers, uint8_t answer,
+        size_t count, size_t offset, size_t expected_offset)
 {
-    bool done = expected_answer == LEASE_FRAME_DONE;
-    uint64_t expected[LEASE_FRAME_NUMBERS];
-    uint8_t *lent = lend(BYTES, count);
-    uint64_t *given = lend(NUMBERS, sizeof expected);
-    size_t *length = lend(LENGTH, sizeof *length);
-    memcpy(lent, bytes, count);
-    memset(expected, FILL, sizeof expected);
-    if (done)
-        memcpy(expected, numbers, sizeof expected);
+    bool in_bytes = answer != LEASE_FRAME_DONE && answer != LEASE_FRAME_CELL
+            && answer != LEASE_FRAME_CUT;
+    if (offset != expected_offset)
+        fail("%s, kind %llu: answer %u, offset %zu; expected %zu", what,
+                (unsigned long long)numbers[LEASE_FRAME_AT_KIND],
+                answer, offset, expected_offset);
+    if (in_bytes && offset >= count)
+        fail("%s: answer %u, offset %zu of %zu bytes", what, answer, offset, count);
+}
 
-    uint8_t answer = lease_frame_read(n, lent, count, given, length);
-    compare_result(what, numbers, answer, expected_answer,
-            *length, done ? second_length(numbers[LEASE_FRAME_AT_KIND]) : 0);
-    size_t places = comparable(done ? LEASE_FRAME_NUMBERS : 0, LEASE_FRAME_NUMBERS);
+static void compare_numbers(const char *what, const uint64_t *numbers, const uint64_t *given,
+        bool whole)
+{
+    uint64_t expected[LEASE_FRAME_NUMBERS];
+    memset(expected, FILL, sizeof expected);
+    if (whole)
+        memcpy(expected, numbers, sizeof expected);
+    size_t places = comparable(whole ? LEASE_FRAME_NUMBERS : 0, LEASE_FRAME_NUMBERS);
     for (size_t place = 0; place < places; place++) {
         if (given[place] != expected[place])
             fail("%s, kind %llu: number %zu is %llu, expected %llu", what,
                     (unsigned long long)numbers[LEASE_FRAME_AT_KIND], place,
                     (unsigned long long)given[place], (unsigned long long)expected[place]);
     }
+}
+
+/* Reads lent bytes; `numbers` is the message if any is given. */
+static void expect_read(const char *what, uint8_t n, const uint8_t *bytes, size_t count,
+        const uint64_t *numbers, struct verdict expected)
+{
+    bool whole = expected.answer == LEASE_FRAME_DONE;
+    size_t size = LEASE_FRAME_NUMBERS * sizeof *numbers;
+    uint8_t *lent = lend(BYTES, count);
+    uint64_t *given = lend(NUMBERS, size);
+    size_t *length = lend(LENGTH, sizeof *length);
+    size_t *offset = lend(OFFSET, sizeof *offset);
+    memcpy(lent, bytes, count);
+
+    uint8_t answer = lease_frame_read(n, lent, count, given, length, offset);
+    compare_result(what, numbers, answer, expected.answer,
+            *length, whole ? second_length(numbers[LEASE_FRAME_AT_KIND]) : 0);
+    compare_offset(what, numbers, answer, count, *offset, expected.offset);
+    compare_numbers(what, numbers, given, whole);
     if (memcmp(lent, bytes, count) != 0)
         fail("%s: reading changed the bytes", what);
     take_back(lent, count);
-    take_back(given, sizeof expected);
+    take_back(given, size);
     take_back(length, sizeof *length);
+    take_back(offset, sizeof *offset);
 }
 
 static size_t lay_each(const uint64_t *numbers, uint16_t receivers, uint8_t *out)
@@ -224,13 +278,16 @@ static void expect_writes(const char *what, uint8_t n, const uint64_t *numbers,
     }
 }
 
-/* Reading, writing and writing to a set answer alike, given all bytes and room. */
-static void expect_all(const char *what, uint8_t n, const uint64_t *numbers, uint8_t answer)
+/* Reading, writing and writing to a set answer alike, given all bytes, or more, and room. */
+static void expect_all(const char *what, uint8_t n, const uint64_t *numbers,
+        struct verdict expected)
 {
-    uint8_t frame[LEASE_FRAME_LONGEST];
-    size_t length = second_lay(numbers, frame);
-    expect_read(what, n, frame, length, numbers, answer);
-    expect_writes(what, n, numbers, length, answer);
+    uint8_t bytes[LEASE_FRAME_LONGEST + AFTER];
+    memset(bytes, FILL, sizeof bytes);
+    size_t length = second_lay(numbers, bytes);
+    expect_read(what, n, bytes, length, numbers, expected);
+    expect_read(what, n, bytes, length + AFTER, numbers, expected);
+    expect_writes(what, n, numbers, length, expected.answer);
 }
 
 /* The sample's message in a cell of n hosts. */
@@ -255,21 +312,31 @@ static void layouts(const struct sample *sample)
     if (length != sample->length || memcmp(frame, sample->bytes, length) != 0)
         fail("the sample of kind %llu is laid out otherwise",
                 (unsigned long long)sample->numbers[LEASE_FRAME_AT_KIND]);
-    expect_all("sample", N, sample->numbers, LEASE_FRAME_DONE);
+    expect_all("sample", N, sample->numbers, done);
+}
+
+/* What the first bytes of a frame give with a length field: 17 below the right one, 4 above. */
+static struct verdict verdict_on_length(const struct sample *sample, size_t field, size_t count)
+{
+    if (count < 4)
+        return refused(LEASE_FRAME_CUT, count);
+    if (field < sample->length)
+        return refused(LEASE_FRAME_SHORT, LENGTH_OFFSET);
+    if (field > sample->length)
+        return refused(LEASE_FRAME_LENGTH, LENGTH_OFFSET);
+    return count < sample->length ? refused(LEASE_FRAME_CUT, count) : done;
 }
 
 /* Every length field on the first bytes of a frame. */
 static void length_fields(const struct sample *sample, const uint8_t *frame, size_t count)
 {
     uint8_t bytes[LEASE_FRAME_LONGEST + AFTER];
-    uint8_t right = count < sample->length ? LEASE_FRAME_CUT : LEASE_FRAME_DONE;
-    uint8_t wrong = count < 4 ? LEASE_FRAME_CUT : LEASE_FRAME_LENGTH;
     memcpy(bytes, frame, sizeof bytes);
     for (unsigned field = 0; field < FIELD_VALUES; field = next(field)) {
         bytes[0] = (uint8_t)field;
         bytes[1] = (uint8_t)(field >> 8);
         expect_read("length field", N, bytes, count, sample->numbers,
-                field == sample->length ? right : wrong);
+                verdict_on_length(sample, field, count));
     }
 }
 
@@ -296,8 +363,9 @@ static void kinds(const struct sample *sample)
         numbers[LEASE_FRAME_AT_KIND] = kind;
         frame[2] = (uint8_t)kind;
         frame[3] = (uint8_t)(kind >> 8);
-        expect_read("kind", N, frame, sample->length, numbers, LEASE_FRAME_KIND);
-        expect_read("kind", N, frame, 4, numbers, LEASE_FRAME_KIND);
+        struct verdict expected = refused(LEASE_FRAME_KIND, KIND_OFFSET);
+        expect_read("kind", N, frame, sample->length, numbers, expected);
+        expect_read("kind", N, frame, 4, numbers, expected);
         expect_writes("kind", N, numbers, ROOM, LEASE_FRAME_KIND);
     }
 }
@@ -308,9 +376,15 @@ static void no_bytes(const struct sample *sample)
     const uint64_t *numbers = sample->numbers;
     uint64_t *given = lend(NUMBERS, sizeof sample->numbers);
     size_t *length = lend(LENGTH, sizeof *length);
+    size_t *offset = lend(OFFSET, sizeof *offset);
     uint16_t target = (uint16_t)(1u << numbers[LEASE_FRAME_AT_TARGET]);
-    uint8_t answer = lease_frame_read(N, NULL, 0, given, length);
+    uint8_t answer = lease_frame_read(N, NULL, 0, given, length, offset);
     compare_result("reading NULL", numbers, answer, LEASE_FRAME_CUT, *length, 0);
+    compare_offset("reading NULL", numbers, answer, 0, *offset, 0);
+    *length = *offset = SIZE_MAX;
+    answer = lease_frame_read(0, NULL, 0, given, length, offset);
+    compare_result("reading NULL in no cell", numbers, answer, LEASE_FRAME_CELL, *length, 0);
+    compare_offset("reading NULL in no cell", numbers, answer, 0, *offset, 0);
     *length = SIZE_MAX;
     answer = write_message(lease_frame_write, N, numbers, NULL, 0, length);
     compare_result("writing to NULL", numbers, answer, LEASE_FRAME_ROOM, *length, 0);
@@ -322,17 +396,35 @@ static void no_bytes(const struct sample *sample)
     compare_result("writing no frame to NULL", numbers, answer, LEASE_FRAME_DONE, *length, 0);
     take_back(given, sizeof sample->numbers);
     take_back(length, sizeof *length);
+    take_back(offset, sizeof *offset);
 }
 
-/* P11 and P12 of the moments worth fixing. */
+/* Whatever the length and the offset were before, what reads has offset 0. */
+static void held_before(const struct sample *sample)
+{
+    static const size_t held[] = {0, 1, LEASE_FRAME_LONGEST, SIZE_MAX};
+    for (size_t i = 0; i < sizeof held / sizeof held[0]; i++) {
+        uint64_t given[LEASE_FRAME_NUMBERS];
+        size_t length = held[i], offset = held[i];
+        uint8_t answer = lease_frame_read(N, sample->bytes, sample->length, given,
+                &length, &offset);
+        compare_result("held before", sample->numbers, answer, LEASE_FRAME_DONE,
+                length, sample->length);
+        compare_offset("held before", sample->numbers, answer, sample->length, offset, 0);
+    }
+}
+
+/* P11 and P12 of the moments worth fixing, and P11 with a length that is too short. */
 static void moments(void)
 {
     static const uint8_t p11[] = {0x0F, 0, 1, 0, 0, 2, 0x69, 0, 0, 0, 0, 0, 0, 0, 0};
     static const uint8_t p12[] = {0x10, 0, 1, 0, 0, 2, 0x69, 0, 0, 0, 0, 0, 0, 0, 0, 0};
+    static const uint8_t zero[] = {0, 0, 1, 0, 0, 2, 0x69, 0, 0, 0, 0, 0, 0, 0, 0};
     static const uint64_t prepare[LEASE_FRAME_NUMBERS] = {1, 0, 2, 105, 0};
-    expect_read("P11", 3, p11, sizeof p11, prepare, LEASE_FRAME_DONE);
-    expect_all("P11", 3, prepare, LEASE_FRAME_DONE);
-    expect_read("P12", 3, p12, sizeof p12, prepare, LEASE_FRAME_LENGTH);
+    expect_read("P11", 3, p11, sizeof p11, prepare, done);
+    expect_all("P11", 3, prepare, done);
+    expect_read("P12", 3, p12, sizeof p12, prepare, refused(LEASE_FRAME_LENGTH, 0));
+    expect_read("length 0", 3, zero, sizeof zero, prepare, refused(LEASE_FRAME_SHORT, 0));
 }
 
 static void ticks(const struct sample *sample, int place)
@@ -340,16 +432,17 @@ static void ticks(const struct sample *sample, int place)
     uint64_t last = place == LEASE_FRAME_AT_END ? LEASE_FRAME_LAST_END : LEASE_FRAME_LAST_TICK;
     uint64_t numbers[LEASE_FRAME_NUMBERS];
     memcpy(numbers, sample->numbers, sizeof numbers);
+    struct verdict past = refused_at(LEASE_FRAME_TICK, numbers, place);
     numbers[place] = 0;
-    expect_all("zero tick or end", N, numbers, LEASE_FRAME_DONE);
+    expect_all("zero tick or end", N, numbers, done);
     numbers[place] = last;
-    expect_all("last tick or end", N, numbers, LEASE_FRAME_DONE);
+    expect_all("last tick or end", N, numbers, done);
     numbers[place] = last + 1;
-    expect_all("tick or end past its limit", N, numbers, LEASE_FRAME_TICK);
+    expect_all("tick or end past its limit", N, numbers, past);
     numbers[place] = UINT64_MAX;
-    expect_all("greatest tick or end", N, numbers, LEASE_FRAME_TICK);
+    expect_all("greatest tick or end", N, numbers, past);
     numbers[place] = UINT64_C(1) << 63;
-    expect_all("top bit of a tick or end", N, numbers, LEASE_FRAME_TICK);
+    expect_all("top bit of a tick or end", N, numbers, past);
 }
 
 /* Every host number at one place, the ballot's host kept together with its party. */
@@ -358,11 +451,12 @@ static void hosts(const struct sample *sample, int place, uint8_t n)
     bool in_party = place == LEASE_FRAME_AT_BALLOT_HOST || place == party_place(sample);
     uint64_t numbers[LEASE_FRAME_NUMBERS];
     sample_for(sample, n, numbers);
+    struct verdict past = refused_at(LEASE_FRAME_HOST, numbers, place);
     for (unsigned host = 0; host <= UINT8_MAX; host++) {
         numbers[place] = host;
         if (in_party && host < n)
             numbers[LEASE_FRAME_AT_BALLOT_HOST] = numbers[party_place(sample)] = host;
-        expect_all("host", n, numbers, host < n ? LEASE_FRAME_DONE : LEASE_FRAME_HOST);
+        expect_all("host", n, numbers, host < n ? done : past);
     }
 }
 
@@ -372,7 +466,7 @@ static void cells(const struct sample *sample)
     for (unsigned n = 0; n <= UINT8_MAX; n++) {
         bool in_range = 1 <= n && n <= LEASE_FRAME_HOSTS;
         sample_for(sample, in_range ? (uint8_t)n : 1, numbers);
-        expect_all("cell", (uint8_t)n, numbers, in_range ? LEASE_FRAME_DONE : LEASE_FRAME_CELL);
+        expect_all("cell", (uint8_t)n, numbers, in_range ? done : refused(LEASE_FRAME_CELL, 0));
     }
 }
 
@@ -380,11 +474,12 @@ static void parties(const struct sample *sample)
 {
     uint64_t numbers[LEASE_FRAME_NUMBERS];
     memcpy(numbers, sample->numbers, sizeof numbers);
+    struct verdict other = refused_at(LEASE_FRAME_PARTY, numbers, party_place(sample));
     for (int i = 0; i < N * N; i++) {
         numbers[LEASE_FRAME_AT_SENDER] = i / N;
         numbers[LEASE_FRAME_AT_TARGET] = i % N;
         bool holds = numbers[party_place(sample)] == numbers[LEASE_FRAME_AT_BALLOT_HOST];
-        expect_all("party", N, numbers, holds ? LEASE_FRAME_DONE : LEASE_FRAME_PARTY);
+        expect_all("party", N, numbers, holds ? done : other);
     }
 }
 
@@ -400,6 +495,59 @@ static void lacking_numbers(const struct sample *sample)
             numbers[place] = past[place];
     }
     expect_writes("numbers that the kind lacks", N, numbers, sample->length, LEASE_FRAME_DONE);
+}
+
+/* Whether a place is in a set, by bits, and in frames of the kind. */
+static bool has(unsigned set, int place, uint64_t kind)
+{
+    return (set >> place & 1) && second_carries(kind, place);
+}
+
+/* The first of these places that the set has, or 0. */
+static int first_of(const int *places, int count, unsigned set, uint64_t kind)
+{
+    for (int i = 0; i < count; i++) {
+        if (has(set, places[i], kind))
+            return places[i];
+    }
+    return 0;
+}
+
+/* What numbers give of which a set is wrong: 5 before 6 before 7, each at its first field. */
+static struct verdict verdict_on_numbers(const struct sample *sample, unsigned wrong,
+        bool party_holds)
+{
+    const uint64_t *numbers = sample->numbers;
+    int host = first_of(host_places, HOST_PLACES, wrong, numbers[LEASE_FRAME_AT_KIND]);
+    int tick = first_of(tick_places, TICK_PLACES, wrong, numbers[LEASE_FRAME_AT_KIND]);
+    if (host != 0)
+        return refused_at(LEASE_FRAME_HOST, numbers, host);
+    if (tick != 0)
+        return refused_at(LEASE_FRAME_TICK, numbers, tick);
+    return party_holds ? done : refused_at(LEASE_FRAME_PARTY, numbers, party_place(sample));
+}
+
+/* Puts a value in those of the places that the set has. */
+static void put(uint64_t *numbers, const int *places, int count, unsigned set, uint64_t value)
+{
+    for (int i = 0; i < count; i++) {
+        if (has(set, places[i], numbers[LEASE_FRAME_AT_KIND]))
+            numbers[places[i]] = value;
+    }
+}
+
+/* Every set of wrong numbers beside the kind, with the party that there should be or another. */
+static void wrong_numbers(const struct sample *sample, bool party_holds)
+{
+    for (unsigned wrong = 0; wrong < 1u << LEASE_FRAME_NUMBERS; wrong += 2) {
+        uint64_t numbers[LEASE_FRAME_NUMBERS];
+        memcpy(numbers, sample->numbers, sizeof numbers);
+        if (!party_holds)
+            numbers[LEASE_FRAME_AT_BALLOT_HOST] = (numbers[LEASE_FRAME_AT_BALLOT_HOST] + 1) % N;
+        put(numbers, host_places, HOST_PLACES, wrong, N);
+        put(numbers, tick_places, TICK_PLACES, wrong, LEASE_FRAME_LAST_END + 1);
+        expect_all("wrong numbers", N, numbers, verdict_on_numbers(sample, wrong, party_holds));
+    }
 }
 
 /* Faults of a message, as bits. */
@@ -427,11 +575,11 @@ enum {
     READ_MESSAGE_SHIFT = 5, READ_FAULTS = 256
 };
 
-static void reading_order(const struct sample *sample, int host_place, int tick_place)
+/* With a length field that is one too long, or with one that is one too short. */
+static void reading_order(const struct sample *sample, int host_place, int tick_place,
+        bool too_long)
 {
-    static const uint8_t answers[] = {LEASE_FRAME_CELL, LEASE_FRAME_CUT, LEASE_FRAME_KIND,
-            LEASE_FRAME_LENGTH, LEASE_FRAME_CUT,
-            LEASE_FRAME_HOST, LEASE_FRAME_TICK, LEASE_FRAME_PARTY};
+    const uint64_t *right = sample->numbers;
     for (unsigned faults = 1; faults < READ_FAULTS; faults++) {
         uint64_t numbers[LEASE_FRAME_NUMBERS];
         uint8_t frame[LEASE_FRAME_LONGEST];
@@ -439,15 +587,25 @@ static void reading_order(const struct sample *sample, int host_place, int tick_
         damage(numbers, host_place, tick_place, faults >> READ_MESSAGE_SHIFT);
         size_t count = second_lay(numbers, frame);
         if (faults & READ_LENGTH)
-            frame[0]++;
+            frame[0] = (uint8_t)(too_long ? frame[0] + 1 : frame[0] - 1);
         if (faults & READ_KIND)
             frame[2] = KINDS + 1;
         if (faults & READ_TAIL)
             count--;
         if (faults & READ_HEAD)
             count = 3;
+        const struct verdict verdicts[] = {
+            refused(LEASE_FRAME_CELL, 0),
+            refused(LEASE_FRAME_CUT, count),
+            refused(LEASE_FRAME_KIND, KIND_OFFSET),
+            refused(too_long ? LEASE_FRAME_LENGTH : LEASE_FRAME_SHORT, LENGTH_OFFSET),
+            refused(LEASE_FRAME_CUT, count),
+            refused_at(LEASE_FRAME_HOST, right, host_place),
+            refused_at(LEASE_FRAME_TICK, right, tick_place),
+            refused_at(LEASE_FRAME_PARTY, right, party_place(sample)),
+        };
         expect_read("order of refusals", faults & READ_CELL ? 0 : N, frame, count, numbers,
-                first_answer(answers, faults));
+                verdicts[__builtin_ctz(faults)]);
     }
 }
 
@@ -496,7 +654,8 @@ static void places(const struct sample *sample, int host_place, int tick_place)
     ticks(sample, tick_place);
     for (uint8_t n = 1; n <= LEASE_FRAME_HOSTS; n++)
         hosts(sample, host_place, n);
-    reading_order(sample, host_place, tick_place);
+    reading_order(sample, host_place, tick_place, true);
+    reading_order(sample, host_place, tick_place, false);
     writing_order(sample, host_place, tick_place);
 }
 
@@ -544,8 +703,11 @@ static void edges(const struct sample *sample)
     cuts(sample);
     kinds(sample);
     no_bytes(sample);
+    held_before(sample);
     cells(sample);
     parties(sample);
+    wrong_numbers(sample, true);
+    wrong_numbers(sample, false);
     lacking_numbers(sample);
     rooms(sample);
     sets(sample, 1);

@@ -11,7 +11,7 @@
 #include "lease_frame.h"
 
 typedef uint8_t read_call(uint8_t n, const uint8_t *bytes, size_t bytes_len,
-        uint64_t numbers[LEASE_FRAME_NUMBERS], size_t *length);
+        uint64_t numbers[LEASE_FRAME_NUMBERS], size_t *length, size_t *offset);
 typedef uint8_t write_call(uint8_t n, uint16_t kind, uint8_t sender, uint8_t target,
         uint64_t ballot_tick, uint8_t ballot_host,
         uint64_t accepted_tick, uint8_t accepted_host, uint8_t owner, uint64_t end,

@@ -7,7 +7,10 @@
 
 #include <string.h>
 
-/* The bytes that each number takes in a frame, in the order of the frame. */
+/*
+ * The bytes that each number takes in a frame, in the order of the frame: one
+ * for a host, eight for a tick or an end.
+ */
 static const size_t width[LEASE_FRAME_NUMBERS] = {2, 1, 1, 8, 1, 8, 1, 1, 8};
 
 /* A set may name sixteen hosts, most of them too high for any cell. */
@@ -147,35 +150,83 @@ static uint8_t check(uint8_t n, const uint64_t *numbers, const struct targets *t
     return LEASE_FRAME_DONE;
 }
 
+/* Whether the number at this place is one that 5, 6 or 7 is answered for. */
+static bool gives(uint8_t answer, uint8_t n, const uint64_t *numbers, int place)
+{
+    bool response = is_response(numbers[LEASE_FRAME_AT_KIND]);
+    switch (answer) {
+    case LEASE_FRAME_HOST:
+        return width[place] == 1 && numbers[place] >= n;
+    case LEASE_FRAME_TICK:
+        return width[place] == 8 && numbers[place] > (place == LEASE_FRAME_AT_END
+                ? LEASE_FRAME_LAST_END : LEASE_FRAME_LAST_TICK);
+    case LEASE_FRAME_PARTY:
+        return place == (response ? LEASE_FRAME_AT_TARGET : LEASE_FRAME_AT_SENDER);
+    default:
+        return false;
+    }
+}
+
+/* The offset of the first number in a frame that the answer is given for. */
+static size_t refused_at(uint8_t answer, uint8_t n, const uint64_t *numbers)
+{
+    size_t at = 2;
+    for (int place = 0; place < LEASE_FRAME_NUMBERS; place++) {
+        if (!second_carries(numbers[LEASE_FRAME_AT_KIND], place))
+            continue;
+        if (gives(answer, n, numbers, place))
+            return at;
+        at += width[place];
+    }
+    return 0;
+}
+
 static bool cell_holds(uint8_t n)
 {
     return 1 <= n && n <= LEASE_FRAME_HOSTS;
 }
 
+static uint8_t refuse(uint8_t answer, size_t at, size_t *offset)
+{
+    *offset = at;
+    return answer;
+}
+
+/* The refusals before those of the message: 1, 2 (under 4 bytes), 3, 4 or 17, 2. */
+static uint8_t check_bytes(uint8_t n, const uint8_t *bytes, size_t bytes_len, size_t *offset)
+{
+    if (!cell_holds(n))
+        return refuse(LEASE_FRAME_CELL, 0, offset);
+    if (bytes_len < 4)
+        return refuse(LEASE_FRAME_CUT, bytes_len, offset);
+    size_t told = take(bytes, 2), right = second_length(take(bytes + 2, 2));
+    if (right == 0)
+        return refuse(LEASE_FRAME_KIND, 2, offset);
+    if (told < right)
+        return refuse(LEASE_FRAME_SHORT, 0, offset);
+    if (told > right)
+        return refuse(LEASE_FRAME_LENGTH, 0, offset);
+    if (bytes_len < right)
+        return refuse(LEASE_FRAME_CUT, bytes_len, offset);
+    return LEASE_FRAME_DONE;
+}
+
 uint8_t second_read(uint8_t n, const uint8_t *bytes, size_t bytes_len,
-        uint64_t numbers[LEASE_FRAME_NUMBERS], size_t *length)
+        uint64_t numbers[LEASE_FRAME_NUMBERS], size_t *length, size_t *offset)
 {
     *length = 0;
-    if (!cell_holds(n))
-        return LEASE_FRAME_CELL;
-    if (bytes_len < 4)
-        return LEASE_FRAME_CUT;
-    uint64_t kind = take(bytes + 2, 2);
-    size_t frame_length = second_length(kind);
-    if (frame_length == 0)
-        return LEASE_FRAME_KIND;
-    if (take(bytes, 2) != frame_length)
-        return LEASE_FRAME_LENGTH;
-    if (bytes_len < frame_length)
-        return LEASE_FRAME_CUT;
+    uint8_t answer = check_bytes(n, bytes, bytes_len, offset);
+    if (answer != LEASE_FRAME_DONE)
+        return answer;
 
     uint64_t message[LEASE_FRAME_NUMBERS];
-    take_message(bytes, kind, message);
+    take_message(bytes, take(bytes + 2, 2), message);
     struct targets target = {1, {(uint8_t)message[LEASE_FRAME_AT_TARGET]}};
-    uint8_t answer = check(n, message, &target);
+    answer = check(n, message, &target);
+    *offset = refused_at(answer, n, message);
     if (answer == LEASE_FRAME_DONE) {
         memcpy(numbers, message, sizeof message);
-        *length = frame_length;
+        *length = second_length(message[LEASE_FRAME_AT_KIND]);
     }
     return answer;
 }

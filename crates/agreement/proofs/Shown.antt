@@ -20,7 +20,7 @@ use Rattle.cell.specs.declared.Event.{Event}
 use Rattle.cell.specs.Events.{cellOf, openingRefusal, eventOf}
 use Rattle.cell.specs.Runs.{opening, run}
 use Rattle.record.specs.declared.First.{First}
-use Rattle.record.specs.Record.{firstRecord}
+use Rattle.record.specs.Record.{firstRecord, openingOffset}
 use Rattle.lines.specs.Lines.{Line, settings, stop, counts, namesFrom}
 use Rattle.listing.specs.Listing.{Script, ends, cuts, then, eventsOf, namesOf, eventLines}
 use Rattle.listing.specs.Listing.{stopLines}
@@ -71,12 +71,12 @@ module _ (s : Settings) (clock : ℕ) where
 end-agrees : (s : Script) (a r : ℕ) → All ShowsOne (stopLines s ++ (counts a r ∷ []))
 unfolding stopLines All ShowsOne
 end-agrees ends a r = (tt, tt)
-end-agrees (cuts at f) a r = (tt, (tt, tt))
+end-agrees (cuts at f o) a r = (tt, (tt, tt))
 end-agrees (then e s) a r = end-agrees s a r
 
-lone : (at f : ℕ) → All ShowsOne (stop at f ∷ [])
+lone : (at f o : ℕ) → All ShowsOne (stop at f o ∷ [])
 unfolding All ShowsOne
-lone at f = (tt, tt)
+lone at f o = (tt, tt)
 
 opened-agrees : (file : List ℕ) (s : Settings) (clock : ℕ) → All ShowsOne (openedLines file s clock)
 unfolding openedLines scriptLines All ShowsOne run
@@ -85,17 +85,17 @@ opened-agrees file s clock = go (eqb (openingRefusal s clock) done)
     go : (b : Bool)
         → All ShowsOne
         (cond b (settings s clock ∷ scriptLines (opening s clock) (scriptOf file))
-        (stop 0 (openingRefusal s clock) ∷ []))
+        (stop 0 (openingRefusal s clock) (openingOffset s clock) ∷ []))
     go true = (
       tt,
       events-agree s clock 1 [] (eventsOf (scriptOf file)) _
           (end-agrees (scriptOf file) _ _),
     )
-    go false = lone 0 (openingRefusal s clock)
+    go false = lone 0 (openingRefusal s clock) (openingOffset s clock)
 
 first-agrees : (file : List ℕ) (f : First) → All ShowsOne (firstLines file f)
 unfolding firstLines
-first-agrees file (First.Fault f) = lone 0 f
+first-agrees file (First.Fault f o) = lone 0 f o
 first-agrees file (First.Given s clock) = opened-agrees file s clock
 
 pub shown : Shown
@@ -103,6 +103,6 @@ unfolding linesOf
 shown file = go (leb (length file) longestRun)
   where
     go : (b : Bool)
-        → All ShowsOne (cond b (firstLines file (firstRecord file)) (stop 0 refusedLong ∷ []))
+        → All ShowsOne (cond b (firstLines file (firstRecord file)) (stop 0 refusedLong 0 ∷ []))
     go true = first-agrees file (firstRecord file)
-    go false = lone 0 refusedLong
+    go false = lone 0 refusedLong 0

@@ -21,7 +21,7 @@ OneHolder names = (i j : ℕ) (x y : Holder) → getD names i Named.Nobody ≡ N
 unfoldable pub ShowsOne : Line → Type 0
 ShowsOne (settings s clock) = Unit
 ShowsOne (event place kind number names) = OneHolder names
-ShowsOne (stop at f) = Unit
+ShowsOne (stop at f o) = Unit
 ShowsOne (counts a r) = Unit
 
 abbrev pub Shown : Type 0

@@ -1,8 +1,8 @@
--- The refusals of document 01 by number, and how an ordered list of them gives an answer. Assumes
--- nothing.
+-- The refusals of documents 01 and 02 by number, and how an ordered list of them gives an answer,
+-- and the place of the field that it is found at. Assumes nothing.
 use Prim.Native.Nat.{ℕ}
 use mathlib.Core.Bool.{Bool, cond}
-use mathlib.Core.List.{List, [], _∷_, map}
+use mathlib.Core.List.{List, [], _∷_, _++_, map}
 use lib.Dec.{eqb}
 use Rattle.base.specs.Lists.{allOf}
 
@@ -18,6 +18,7 @@ refusedCut = 2
 abbrev pub refusedKind : ℕ
 refusedKind = 3
 
+-- a length field that is too long; one that is too short is 17
 abbrev pub refusedLength : ℕ
 refusedLength = 4
 
@@ -57,6 +58,9 @@ refusedClock = 15
 abbrev pub refusedLong : ℕ
 refusedLong = 16
 
+abbrev pub refusedShort : ℕ
+refusedShort = 17
+
 -- ---- answers
 
 -- 0 where a test holds, else the refusal's number
@@ -92,3 +96,19 @@ allHold ts = allOf (map (λ t. t .holds) ts)
 -- the number of the first refusal that applies, or 0 (done)
 abbrev pub answerBy : {Field : Type 0} → List (Refusal Field) → ℕ
 answerBy rs = firstOf (map (λ r. unless (allHold (r .tests)) (r .number)) rs)
+
+-- ---- where a refusal is found
+
+-- all the tests of a list of refusals, in its order
+unfoldable pub testsIn : {Field : Type 0} → List (Refusal Field) → List (Test Field)
+testsIn [] = []
+testsIn (r ∷ rs) = r .tests ++ testsIn rs
+
+-- the place of the first of these tests that fails, or 0
+unfoldable pub failsAt : {Field : Type 0} → (Field → ℕ) → List (Test Field) → ℕ
+failsAt place [] = 0
+failsAt place (t ∷ ts) = cond (t .holds) (failsAt place ts) (place (t .field))
+
+-- the place of the field at which the first refusal that applies is found, or 0
+abbrev pub placeBy : {Field : Type 0} → (Field → ℕ) → List (Refusal Field) → ℕ
+placeBy place rs = failsAt place (testsIn rs)

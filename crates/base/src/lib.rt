@@ -1,5 +1,5 @@
-// The refusals of document 01 by number. There are no functions here: specs/ and proofs/ hold what
-// every crate cites.
+// The refusals of documents 01 and 02 by number. There are no functions here: specs/ and proofs/
+// hold what every crate cites.
 pub const DONE: u8 = 0;
 
 pub const REFUSED_CELL: u8 = 1;
@@ -33,3 +33,5 @@ pub const REFUSED_SPREAD: u8 = 14;
 pub const REFUSED_CLOCK: u8 = 15;
 
 pub const REFUSED_LONG: u8 = 16;
+
+pub const REFUSED_SHORT: u8 = 17;

@@ -7,9 +7,10 @@ use native.Mathlib.Nat.{add-mul, one-mul, zero-mul}
 use native.Mathlib.Omega.{arith}
 use lib.Count.{ones}
 use lib.ListN.{length, length-append}
-use lib.Dec.{leb, eqb}
+use lib.Dec.{ltb, leb, eqb}
 use borrow.Author.Tests.{leb-true, ltb-true, le-leb, lt-leb, ne-eqb}
-use Rattle.base.specs.Refusals.{unless, firstOf, refusedCell, refusedRoom}
+use Rattle.base.specs.Refusals.{unless, firstOf, refusedCell, refusedRoom, testsIn, failsAt}
+use Rattle.base.specs.Refusals.{placeBy, allHold, refusedHost, refusedTick, refusedParty}
 use Rattle.base.specs.Lists.{allOf}
 use Rattle.base.proofs.Tests.{both, first-passed, unless-passed, first-same, first-append}
 use Rattle.quorum.specs.Sets.{mostHosts, members}
@@ -18,25 +19,60 @@ use Rattle.message.specs.declared.Sizes.{Sizes}
 use Rattle.message.specs.declared.Numbers.{Numbers}
 use Rattle.message.specs.declared.Message.{Message}
 use Rattle.message.specs.Message.{knownKind, numbersOf, messageOf, withTarget}
-use Rattle.message.specs.Faults.{sizesFit, faultOf, faultTo}
+use Rattle.message.specs.Faults.{sizesFit, hostTests, tickTests, partyFits, refusalsOf, faultOf}
+use Rattle.message.specs.Faults.{faultTo}
 use Rattle.message.proofs.Laws.{passed-to}
-use Rattle.layout.specs.Layout.{kindLength, bytesOf, numbersIn}
-use Rattle.layout.proofs.Laws.{bytes-length}
+use Rattle.layout.specs.Layout.{kindLength, offsetOf, bytesOf, numbersIn}
+use Rattle.layout.proofs.Laws.{message-place, bytes-length}
 use Rattle.frame.specs.declared.Found.the-variants.{Frame, Fault}
 use Rattle.frame.specs.declared.Reading.the-variants.{Whole, Refused}
-use Rattle.frame.specs.Reading.{toldLength, toldKind, readAnswer, readOf}
+use Rattle.frame.specs.Reading.{toldLength, toldKind, readAnswer, readOffset, readOf}
 use Rattle.frame.specs.Writing.{frameOf, writeAnswer, framesIn, framesOf, answerTo}
 use Rattle.frame.specs.Parts.{foundOf, readingOf, answerOf}
 
 -- ---- reading
 
--- where the frame is whole, what is left is the message's
-pub read-whole : (z : Sizes) (s : List ℕ) → sizesFit z ≡ true → leb 4 (length s) ≡ true
-    → knownKind (toldKind s) ≡ true → eqb (toldLength s) (kindLength (toldKind s)) ≡ true
-    → leb (kindLength (toldKind s)) (length s) ≡ true
+-- the cell fits, and the frame is whole
+pub record Tested (z : Sizes) (s : List ℕ) : Type 0 where
+  pub cell : sizesFit z ≡ true
+  pub fore : leb 4 (length s) ≡ true
+  pub kind : knownKind (toldKind s) ≡ true
+  pub told : toldLength s ≡ kindLength (toldKind s)
+  pub room : leb (kindLength (toldKind s)) (length s) ≡ true
+
+-- what is left is then the message's: its refusal, and where it is found
+pub read-whole : (z : Sizes) (s : List ℕ) → Tested z s
     → readAnswer z s ≡ faultOf z (numbersIn s (toldKind s))
 unfolding readAnswer firstOf allOf faultOf
-read-whole z s c l k e r = rw (c, l, k, e, r)
+read-whole z s t =
+    let len = kindLength (toldKind s) in
+    rw (t .cell, t .fore, t .kind, t .told, le-leb len len (omega arith), t .room)
+
+pub offset-whole : (z : Sizes) (s : List ℕ) → Tested z s →
+    let f = numbersIn s (toldKind s) in
+    readOffset z s ≡ placeBy (offsetOf (f .kind)) (refusalsOf z f)
+unfolding readOffset testsIn failsAt numbersIn
+offset-whole z s t =
+    let k = toldKind s in
+    let len = kindLength k in
+    rw (t .cell, t .fore, t .kind, t .told, le-leb len len (omega arith), t .room)
+    (message-place (length s) k z (numbersIn s k))
+
+-- the refusals of a message as three tests: the number of the first that fails
+pub fault-number : (z : Sizes) (f : Numbers) → faultOf z f
+    ≡ cond (allHold (hostTests z f (ltb (f .target) (z .n))))
+    (cond (allHold (tickTests f)) (cond (partyFits f) 0 refusedParty) refusedTick) refusedHost
+unfolding faultOf firstOf allOf
+fault-number z f =
+    go (allHold (hostTests z f (ltb (f .target) (z .n)))) (allHold (tickTests f)) (partyFits f)
+  where
+    go : (a b c : Bool)
+        → firstOf (unless a refusedHost ∷ unless b refusedTick ∷ unless c refusedParty ∷ [])
+        ≡ cond a (cond b (cond c 0 refusedParty) refusedTick) refusedHost
+    go true true true = refl
+    go true true false = refl
+    go true false c = refl
+    go false b c = refl
 
 -- reading makes the message of what is found
 pub found-read : (z : Sizes) (s : List ℕ) → readOf z s ≡ readingOf (foundOf z s)
@@ -47,7 +83,8 @@ found-read z s = go (eqb (readAnswer z s) 0)
         let f = numbersIn s (toldKind s) in
         let l = kindLength (toldKind s) in
         let a = readAnswer z s in
-        cond b (Whole (messageOf f) l) (Refused a) ≡ readingOf (cond b (Frame f l) (Fault a))
+        let at = readOffset z s in
+        cond b (Whole (messageOf f) l) (Refused a at) ≡ readingOf (cond b (Frame f l) (Fault a at))
     go true = refl
     go false = refl
 

@@ -8,7 +8,7 @@ use native.Mathlib.Omega.{arith}
 use lib.ListN.{length, getD, take}
 use lib.Dec.{leb, eqb}
 use borrow.Author.Tests.{leb-true, eqb-true}
-use Rattle.base.specs.Refusals.{refusedCell, refusedCut, refusedKind, refusedLength}
+use Rattle.base.specs.Refusals.{refusedCell, refusedCut, refusedKind, refusedLength, refusedShort}
 use Rattle.base.specs.Lists.{allOf}
 use Rattle.base.proofs.Tests.{unless-passed}
 use Rattle.message.specs.declared.Sizes.{Sizes}
@@ -21,10 +21,10 @@ use Rattle.layout.specs.Layout.{Fit, kindLength, numbersIn}
 use Rattle.layout.proofs.Laws.{message-back, bytes-back}
 use Rattle.frame.specs.declared.Found.the-variants.{Frame, Fault}
 use Rattle.frame.specs.declared.Reading.the-variants.{Whole, Refused}
-use Rattle.frame.specs.Reading.{toldLength, toldKind, readAnswer, readOf}
+use Rattle.frame.specs.Reading.{toldLength, toldKind, readAnswer, readOffset, readOf}
 use Rattle.frame.specs.Writing.{frameOf, writeAnswer}
 use Rattle.frame.specs.Parts.{foundOf}
-use Rattle.frame.proofs.Answers.{read-whole, write-free}
+use Rattle.frame.proofs.Answers.{Tested, read-whole, write-free}
 use Rattle.frame.proofs.Round.{kind-back, frame-length, frame-back}
 
 -- what is read has an answer of 0, and is the message and the length that stand there
@@ -40,28 +40,25 @@ read-accepted z s m l = go (readAnswer z s) (eqb (readAnswer z s) 0) refl refl
   where
     go : (a : ℕ) (e : Bool) → readAnswer z s ≡ a → eqb a 0 ≡ e
         → cond e (Whole (messageOf (numbersIn s (toldKind s))) (kindLength (toldKind s)))
-        (Refused a) ≡ Whole m l → Accepted z s m l
+        (Refused a (readOffset z s)) ≡ Whole m l → Accepted z s m l
     go a true p q r = record { passed = p ∙ eqb-true a 0 q; message = cc; long = cc }
     go a false p q r = let absent : _≡_ {A = ℕ} 0 1 = cc in absurd (omega arith)
 
 -- an answer of 0: the cell fits, and the frame is whole
-record Tested (z : Sizes) (s : List ℕ) : Type 0 where
-  cell : sizesFit z ≡ true
-  fore : leb 4 (length s) ≡ true
-  kind : knownKind (toldKind s) ≡ true
-  told : eqb (toldLength s) (kindLength (toldKind s)) ≡ true
-  room : leb (kindLength (toldKind s)) (length s) ≡ true
-
 tested : (z : Sizes) (s : List ℕ) → readAnswer z s ≡ 0 → Tested z s
 unfolding readAnswer allOf
 tested z s e =
+    let told = toldLength s in
+    let len = kindLength (toldKind s) in
     let p1 = unless-passed (sizesFit z) refusedCell _ refl e in
     let p2 = unless-passed (leb 4 (length s)) refusedCut _ refl (p1 .1) in
     let p3 = unless-passed (knownKind (toldKind s)) refusedKind _ refl (p2 .1) in
-    let p4 =
-    unless-passed (eqb (toldLength s) (kindLength (toldKind s))) refusedLength _ refl (p3 .1) in
-    let p5 = unless-passed (leb (kindLength (toldKind s)) (length s)) refusedCut _ refl (p4 .1) in
-    record { cell = p1 .0; fore = p2 .0; kind = p3 .0; told = p4 .0; room = p5 .0 }
+    let p4 = unless-passed (leb len told) refusedShort _ refl (p3 .1) in
+    let p5 = unless-passed (leb told len) refusedLength _ refl (p4 .1) in
+    let p6 = unless-passed (leb len (length s)) refusedCut _ refl (p5 .1) in
+    let same : told ≡ len =
+    omega (arith, leb-true len told (p4 .0), leb-true told len (p5 .0)) in
+    record { cell = p1 .0; fore = p2 .0; kind = p3 .0; told = same; room = p6 .0 }
 
 -- numbers that are found are those of a message
 pub found-numbers : (z : Sizes) (s : List ℕ) (f : Numbers) (l : ℕ) → foundOf z s ≡ Frame f l
@@ -70,8 +67,8 @@ unfolding foundOf
 found-numbers z s f l = go (readAnswer z s) (eqb (readAnswer z s) 0) refl refl
   where
     go : (a : ℕ) (e : Bool) → readAnswer z s ≡ a → eqb a 0 ≡ e
-        → cond e (Frame (numbersIn s (toldKind s)) (kindLength (toldKind s))) (Fault a) ≡ Frame f l
-        → numbersOf (messageOf f) ≡ f
+        → cond e (Frame (numbersIn s (toldKind s)) (kindLength (toldKind s)))
+        (Fault a (readOffset z s)) ≡ Frame f l → numbersOf (messageOf f) ≡ f
     go a true p q r =
         let same : numbersIn s (toldKind s) ≡ f = cc in
         rw (← same) (message-back s (toldKind s) (tested z s (p ∙ eqb-true a 0 q) .kind))
@@ -87,7 +84,7 @@ read-only s bytes z m l q =
     let k = toldKind s in
     let back =
     bytes-back s k bytes (t .kind) (leb-true (kindLength k) (length s) (t .room)) refl
-    (eqb-true (toldLength s) (kindLength k) (t .told)) in
+    (t .told) in
     rw (← p .message, ← p .long, message-back s k (t .kind)) (sym back)
 
 -- what is read can be written, and the length that reading gave is that of the message's frame
@@ -102,7 +99,7 @@ read-write z s m l q =
     let e : l ≡ length (frameOf m) = sym (p .long)
     ∙ sym (ap (λ (g : Numbers). kindLength (g .kind)) f) ∙ sym (frame-length m) in
     let bad : faultOf z (numbersOf m) ≡ 0 =
-    rw f (sym (read-whole z s (t .cell) (t .fore) (t .kind) (t .told) (t .room)) ∙ p .passed) in
+    rw f (sym (read-whole z s t) ∙ p .passed) in
     (e, write-free z m l (t .cell) bad (omega (arith, e)))
 
 -- two cells that both read some bytes read the same message from them

@@ -7,8 +7,8 @@ use Prim.Native.Nat.{ℕ, _+_, _≤_}
 use native.Mathlib.Omega.{arith}
 use lib.ListN.{length, length-append, drop}
 use lib.Dec.{leb, eqb}
-use borrow.Author.Tests.{ltb-true, leb-true, eqb-true, le-leb, eq-eqb}
-use Rattle.base.specs.Refusals.{firstOf}
+use borrow.Author.Tests.{ltb-true, leb-true, eqb-true, le-leb}
+use Rattle.base.specs.Refusals.{firstOf, testsIn, failsAt}
 use Rattle.base.specs.Lists.{allOf}
 use Rattle.base.proofs.Tests.{by-test}
 use Rattle.wire.specs.Wire.{le, numberAt, total, packed}
@@ -22,22 +22,24 @@ use Rattle.message.specs.declared.Message.the-variants.{ProposeResponse, Learn}
 use Rattle.message.specs.Message.{lastTick, lastEnd, knownKind, numbersOf}
 use Rattle.message.specs.Faults.{sizesFit, faultOf}
 use Rattle.message.proofs.Laws.{fault-passed, kind-known, message-numbers}
-use Rattle.layout.specs.Layout.{Fit, moreOf, kindLength, bytesOf, numbersIn}
+use Rattle.layout.specs.Layout.{Fit, moreOf, kindLength, offsetIn, bytesOf, numbersIn}
 use Rattle.layout.specs.Parts.{headLength}
 use Rattle.layout.proofs.Laws.{length-least, bytes-length, numbers-back, numbers-whole}
 use Rattle.frame.specs.declared.Reading.the-variants.{Whole, Refused}
-use Rattle.frame.specs.Reading.{toldLength, toldKind, readAnswer, readOf, numberOf, lengthOf}
+use Rattle.frame.specs.Reading.{toldLength, toldKind, readAnswer, readOffset, readOf}
+use Rattle.frame.specs.Reading.{numberOf, lengthOf, refusedAt}
 use Rattle.frame.specs.Writing.{frameOf, writeAnswer, writtenOf, afterWrite}
-use Rattle.frame.proofs.Answers.{read-whole, answer-free, cell-most, write-found}
+use Rattle.frame.proofs.Answers.{Tested, read-whole, offset-whole, answer-free, cell-most}
+use Rattle.frame.proofs.Answers.{write-found}
 
--- ---- the number and the length that reading gives
+-- ---- the number, the length and the offset that reading gives
 
 -- reading's number is that of the first refusal that applies
 pub read-number : (z : Sizes) (s : List ℕ) → numberOf (readOf z s) ≡ readAnswer z s
 unfolding readOf
 read-number z s =
     let a = readAnswer z s in
-    by-test (λ r. numberOf r ≡ a) (eqb a 0) (Whole _ _) (Refused a) (λ e. sym (eqb-true a 0 e))
+    by-test (λ r. numberOf r ≡ a) (eqb a 0) (Whole _ _) (Refused a _) (λ e. sym (eqb-true a 0 e))
     (λ _. refl)
 
 -- its length is that of the kind's frames, and 0 where it is refused
@@ -47,8 +49,18 @@ unfolding readOf
 read-length z s =
     let a = readAnswer z s in
     let l = kindLength (toldKind s) in
-    by-test (λ r. lengthOf r ≡ cond (eqb a 0) l 0) (eqb a 0) (Whole _ l) (Refused a) (λ e. rw e)
+    by-test (λ r. lengthOf r ≡ cond (eqb a 0) l 0) (eqb a 0) (Whole _ l) (Refused a _) (λ e. rw e)
     (λ e. rw e)
+
+-- its offset is that of the field at fault, and 0 where nothing is refused
+pub read-offset : (z : Sizes) (s : List ℕ)
+    → refusedAt (readOf z s) ≡ cond (eqb (readAnswer z s) 0) 0 (readOffset z s)
+unfolding readOf
+read-offset z s =
+    let a = readAnswer z s in
+    let at = readOffset z s in
+    by-test (λ r. refusedAt r ≡ cond (eqb a 0) 0 at) (eqb a 0) (Whole _ _) (Refused a at)
+    (λ e. rw e) (λ e. rw e)
 
 -- ---- written, then read
 
@@ -113,8 +125,13 @@ read-frame z m t c e =
     let back : numbersIn s (numbersOf m .kind) ≡ numbersOf m =
     frame-back m t (checked-fit z (numbersOf m) c e) in
     let w =
-    read-whole z s c (le-leb 4 (length s) (omega arith)) (rw a (kind-known m))
-    (rw (a, length-back m t) (eq-eqb len len refl)) (rw a (le-leb len (length s) (omega arith))) in
+    read-whole z s (record {
+      cell = c;
+      fore = le-leb 4 (length s) (omega arith);
+      kind = rw a (kind-known m);
+      told = rw a (length-back m t);
+      room = rw a (le-leb len (length s) (omega arith));
+    }) in
     rw (w, a, back, e, message-numbers m, frame-length m)
 
 -- where writing answers 0, reading what it left gives the message and the length that writing gave
@@ -127,10 +144,21 @@ write-read z m out q =
 
 -- ---- what follows is not looked at
 
+-- the told length is below that of the kind's frames, or above it, or it is that one
+pub by-length : (P : Type 0) (told len : ℕ) → (leb len told ≡ false → P)
+    → (leb len told ≡ true → leb told len ≡ false → P) → (told ≡ len → P) → P
+by-length P told len below above same =
+    go (leb len told) (leb told len) refl refl
+  where
+    go : (a b : Bool) → leb len told ≡ a → leb told len ≡ b → P
+    go false b p q = below p
+    go true false p q = above p q
+    go true true p q = same (omega (arith, leb-true len told p, leb-true told len q))
+
 module _ (z : Sizes) (s t : List ℕ) where
   whole-rest : leb 4 (length s) ≡ true → sizesFit z ≡ true → (readAnswer z s ≡ 2 → ⊥)
       → readOf z (s ++ t) ≡ readOf z s
-  unfolding readOf readAnswer firstOf allOf
+  unfolding readOf readAnswer readOffset firstOf allOf testsIn failsAt offsetIn
   whole-rest four c h =
       kinds (knownKind (toldKind s)) refl
     where
@@ -146,29 +174,45 @@ module _ (z : Sizes) (s t : List ℕ) where
       told-length : toldLength (s ++ t) ≡ toldLength s
       told-length = number-within s t 0 2 (omega (arith, leb-true 4 (length s) four))
 
-      rooms : knownKind (toldKind s) ≡ true → eqb (toldLength s) (kindLength (toldKind s)) ≡ true
-          → (r : Bool) → leb (kindLength (toldKind s)) (length s) ≡ r
-          → readOf z (s ++ t) ≡ readOf z s
-      rooms k e true r =
-          let fits = leb-true (kindLength (toldKind s)) (length s) r in
-          let r′ : leb (kindLength (toldKind s)) (length (s ++ t)) ≡ true =
-          le-leb (kindLength (toldKind s)) (length (s ++ t)) (omega (arith, long, fits)) in
-          let same = numbers-whole s t (toldKind s) fits in
-          rw (c, four, four′, kind, told-length, k, e, r, r′, same)
-      rooms k e false r = absurd (h (rw (c, four, k, e, r)))
+      len : ℕ
+      len = kindLength (toldKind s)
 
-      lengths : knownKind (toldKind s) ≡ true → (e : Bool)
-          → eqb (toldLength s) (kindLength (toldKind s)) ≡ e → readOf z (s ++ t) ≡ readOf z s
-      lengths k true e = rooms k e (leb (kindLength (toldKind s)) (length s)) refl
-      lengths k false e = rw (c, four, four′, kind, told-length, k, e)
+      rooms : knownKind (toldKind s) ≡ true → toldLength s ≡ len
+          → (r : Bool) → leb len (length s) ≡ r → readOf z (s ++ t) ≡ readOf z s
+      rooms k e true r =
+          let fits = leb-true len (length s) r in
+          let r′ = le-leb len (length (s ++ t)) (omega (arith, long, fits)) in
+          let one : Tested z s = record { cell = c; fore = four; kind = k; told = e; room = r } in
+          let two : Tested z (s ++ t) =
+          record {
+            cell = c;
+            fore = four′;
+            kind = rw kind k;
+            told = rw (kind, told-length) e;
+            room = rw kind r′;
+          } in
+          let same = numbers-whole s t (toldKind s) fits in
+          rw (
+            read-whole z (s ++ t) two,
+            offset-whole z (s ++ t) two,
+            read-whole z s one,
+            offset-whole z s one,
+            kind,
+            same,
+          )
+      rooms k e false r =
+          absurd (h (rw (c, four, k, e, le-leb len len (omega arith), r)))
 
       kinds : (k : Bool) → knownKind (toldKind s) ≡ k → readOf z (s ++ t) ≡ readOf z s
       kinds false k = rw (c, four, four′, kind, k)
-      kinds true k = lengths k (eqb (toldLength s) (kindLength (toldKind s))) refl
+      kinds true k =
+          by-length _ (toldLength s) len (λ p. rw (c, four, four′, kind, told-length, k, p))
+          (λ p q. rw (c, four, four′, kind, told-length, k, p, q))
+          (λ e. rooms k e (leb len (length s)) refl)
 
   -- unless bytes are missing (2), those that follow change nothing
   pub rest-unread : (readAnswer z s ≡ 2 → ⊥) → readOf z (s ++ t) ≡ readOf z s
-  unfolding readOf readAnswer firstOf allOf
+  unfolding readOf readAnswer readOffset firstOf allOf testsIn failsAt offsetIn
   rest-unread h = cells (sizesFit z) refl
     where
       fours : sizesFit z ≡ true → (l : Bool) → leb 4 (length s) ≡ l → readOf z (s ++ t) ≡ readOf z s

@@ -6,14 +6,19 @@ use mathlib.Core.List.{List, [], _∷_, _++_}
 use Prim.Native.Nat.{ℕ, _≤_, _<_}
 use lib.ListN.{length, getD, take, drop}
 use lib.Dec.{eqb}
-use Rattle.base.specs.Refusals.{done, refusedCut}
+use Rattle.base.specs.Refusals.{done, refusedCell, refusedCut, refusedLength, refusedParty}
+use Rattle.base.specs.Refusals.{refusedShort, test, Refusal, refusal, answerBy}
+use Rattle.base.specs.Claims.{GivenAt, Lowest}
 use Rattle.quorum.specs.Sets.{Member, members}
 use Rattle.message.specs.declared.Sizes.{Sizes}
 use Rattle.message.specs.declared.Message.{Message}
-use Rattle.message.specs.Message.{numbersOf, addressedTo}
-use Rattle.layout.specs.Layout.{Fit, kindLength}
-use Rattle.frame.specs.declared.Reading.the-variants.{Whole}
-use Rattle.frame.specs.Reading.{toldKind, readAnswer, readOf, numberOf, lengthOf}
+use Rattle.message.specs.Message.{isResponse, numbersOf, messageOf, addressedTo}
+use Rattle.message.specs.Faults.{Field, frameLength}
+use Rattle.layout.specs.Layout.{Fit, kindLength, placeIn, numbersIn}
+use Rattle.frame.specs.declared.Reading.{Reading}
+use Rattle.frame.specs.declared.Reading.the-variants.{Whole, Refused}
+use Rattle.frame.specs.Reading.{toldLength, toldKind, refusalsWith, readRefusals, readAnswer}
+use Rattle.frame.specs.Reading.{readOffset, readWith, readOf, numberOf, lengthOf, refusedAt}
 use Rattle.frame.specs.Writing.{frameOf, writeAnswer, writtenOf, afterWrite}
 use Rattle.frame.specs.Writing.{framesOf, answerTo, afterWriteTo}
 
@@ -25,12 +30,57 @@ inTurn z m (h ∷ hs) out =
     let end = length (frameOf one) in
     take end (afterWrite z one out) ++ inTurn z m hs (drop end (afterWrite z one out))
 
+-- what was refused before 17 was told from 4: a length field that is not the kind's
+abbrev pub formerRefusals : Sizes → List ℕ → List (Refusal Field)
+formerRefusals z s =
+    let same = eqb (toldLength s) (kindLength (toldKind s)) in
+    refusalsWith (refusal refusedLength (test frameLength same ∷ []) ∷ []) z s
+
+-- what was read then; a refusal had no offset, and has 0 here
+abbrev pub formerOf : Sizes → List ℕ → Reading
+formerOf z s =
+    let k = toldKind s in
+    readWith (answerBy (formerRefusals z s)) 0 (messageOf (numbersIn s k)) (kindLength k)
+
+-- 17 taken as 4, and the offset left out
+abbrev pub formerNumber : ℕ → ℕ
+formerNumber k = cond (eqb k refusedShort) refusedLength k
+
+abbrev pub asFormer : Reading → Reading
+asFormer (Whole m l) = Whole m l
+asFormer (Refused k at) = Refused (formerNumber k) 0
+
+-- where fields stand in these lent bytes
+abbrev pub placesIn : List ℕ → Field → ℕ
+placesIn s = placeIn (length s) (toldKind s)
+
 pub record Claims : Type 0 where
   -- reading's number is that of the first refusal that applies
   pub number : (z : Sizes) (s : List ℕ) → numberOf (readOf z s) ≡ readAnswer z s
+  -- with 17 taken as 4 it is the reading of before
+  pub former : (z : Sizes) (s : List ℕ) → asFormer (readOf z s) ≡ formerOf z s
   -- its length is that of the kind's frames, and 0 where it is refused
   pub read-length : (z : Sizes) (s : List ℕ)
       → lengthOf (readOf z s) ≡ cond (eqb (readAnswer z s) done) (kindLength (toldKind s)) 0
+  -- its offset is that of the field at fault, and 0 where nothing is refused
+  pub offset : (z : Sizes) (s : List ℕ)
+      → refusedAt (readOf z s) ≡ cond (eqb (readAnswer z s) done) 0 (readOffset z s)
+  -- a field there gives reading's number, and none at a lower offset does
+  pub offset-given : (z : Sizes) (s : List ℕ) → (readAnswer z s ≡ done → ⊥)
+      → GivenAt (placesIn s) (readRefusals z s) (readAnswer z s) (readOffset z s)
+  pub offset-lowest : (z : Sizes) (s : List ℕ)
+      → Lowest (placesIn s) (readRefusals z s) (readAnswer z s) (readOffset z s)
+  -- it is 0 for the settings (1), the number of bytes lent for both forms of 2, and the sender's or
+  -- the target's for the party (7)
+  pub offset-settings : (z : Sizes) (s : List ℕ) → readAnswer z s ≡ refusedCell
+      → readOffset z s ≡ 0
+  pub offset-cut : (z : Sizes) (s : List ℕ) → readAnswer z s ≡ refusedCut
+      → readOffset z s ≡ length s
+  pub offset-party : (z : Sizes) (s : List ℕ) → readAnswer z s ≡ refusedParty
+      → readOffset z s ≡ cond (isResponse (toldKind s)) 5 4
+  -- but for 2 it lies within the bytes lent, if there are any; without one there is only 1 or 2
+  pub offset-within : (z : Sizes) (s : List ℕ) → 0 < length s → (readAnswer z s ≡ done → ⊥)
+      → (readAnswer z s ≡ refusedCut → ⊥) → readOffset z s < length s
   -- unless bytes are missing (2), those that follow change nothing
   pub rest-unread : (z : Sizes) (s t : List ℕ) → (readAnswer z s ≡ refusedCut → ⊥)
       → readOf z (s ++ t) ≡ readOf z s

@@ -1,14 +1,15 @@
--- Worked frames: document 01's prepare request, a proposal of zeros, and a proposal to two hosts.
--- proofs/Examples.antt proves them. P11 and P12 stand in the joint table. Assumes nothing.
+-- Worked frames: document 01's prepare request, a proposal of zeros, responses with faults, and a
+-- proposal to two hosts. proofs/Examples.antt proves them. P11 and P12 stand in the joint table.
+-- Assumes nothing.
 use mathlib.Core.Path.{_≡_}
-use mathlib.Core.List.{List, [], _∷_, _++_}
+use mathlib.Core.List.{List, [], _∷_, _++_, map}
 use Prim.Native.Nat.{ℕ}
-use Rattle.base.specs.Refusals.{done, refusedHost, refusedRoom}
+use Rattle.base.specs.Refusals.{done, refusedHost, refusedParty, refusedRoom}
 use Rattle.message.specs.declared.Message.{Message}
 use Rattle.message.specs.declared.Message.the-variants.{PrepareRequest, ProposeRequest}
 use Rattle.message.specs.Message.{headWith}
 use Rattle.message.specs.Faults.{sizes}
-use Rattle.frame.specs.declared.Reading.the-variants.{Whole}
+use Rattle.frame.specs.declared.Reading.the-variants.{Whole, Refused}
 use Rattle.frame.specs.Reading.{readOf}
 use Rattle.frame.specs.Writing.{frameOf, writeAnswer, framesOf, answerTo}
 
@@ -33,12 +34,25 @@ proposalBytes target tick end =
     24 ∷ 0 ∷ 4 ∷ 0 ∷ 0 ∷ target ∷ tick ∷ 0 ∷ 0 ∷ 0 ∷ 0 ∷ 0 ∷ 0 ∷ 0 ∷ 0
     ∷ 0 ∷ end ∷ 0 ∷ 0 ∷ 0 ∷ 0 ∷ 0 ∷ 0 ∷ 0 ∷ []
 
+-- a response with a lease, host 1 to this target, ballot (105,0); the lease's ballot is this host's
+-- at 104, with this owner and the end 160
+abbrev pub responseBytes : ℕ → ℕ → ℕ → List ℕ
+responseBytes target host owner =
+    33 ∷ 0 ∷ 3 ∷ 0 ∷ 1 ∷ target ∷ 105 ∷ 0 ∷ 0 ∷ 0 ∷ 0 ∷ 0 ∷ 0 ∷ 0 ∷ 0
+    ∷ 104 ∷ 0 ∷ 0 ∷ 0 ∷ 0 ∷ 0 ∷ 0 ∷ 0 ∷ host ∷ owner ∷ 160 ∷ 0 ∷ 0 ∷ 0 ∷ 0 ∷ 0 ∷ 0 ∷ 0 ∷ []
+
 pub record Examples : Type 0 where
   pub request-written : frameOf request ≡ requestBytes
   -- zero is an ordinary tick and end
   pub zero-read : readOf (sizes 1) (proposalBytes 0 0 0) ≡ Whole (proposal 0 0 0) 24
   pub zero-written : frameOf (proposal 0 0 0) ≡ proposalBytes 0 0 0
   pub zero-accepted : writeAnswer (sizes 1) (proposal 0 0 0) 24 ≡ done
+  -- of two host numbers of n or more the first gives 5, at its offset, and alone each its own; the
+  -- party of a response is its target
+  pub hosts-refused : map (readOf (sizes 3))
+      (responseBytes 0 3 4 ∷ responseBytes 0 3 1 ∷ responseBytes 0 1 4 ∷ [])
+      ≡ Refused refusedHost 23 ∷ Refused refusedHost 23 ∷ Refused refusedHost 24 ∷ []
+  pub party-refused : readOf (sizes 3) (responseBytes 2 1 1) ≡ Refused refusedParty 5
   -- an empty set writes nothing and is 0
   pub no-receivers : (answerTo (sizes 3) request 0 0 ≡ done) × (framesOf (sizes 3) request 0 ≡ [])
   -- to hosts 1 and 2, set 6: both frames end to end in a room of exactly both; 8 with a byte fewer

@@ -14,21 +14,21 @@ use Rattle.frame.specs.declared.Found.the-variants.{Frame, Fault}
 use Rattle.frame.specs.declared.Reading.{Reading}
 use Rattle.frame.specs.declared.Reading.the-variants.{Whole, Refused}
 use Rattle.frame.specs.declared.Written.{Written}
-use Rattle.frame.specs.Reading.{toldKind, readAnswer}
+use Rattle.frame.specs.Reading.{toldKind, readAnswer, readOffset}
 
--- what is found under an answer
-abbrev pub foundWith : ℕ → Numbers → ℕ → Found
-foundWith a f l = cond (eqb a done) (Frame f l) (Fault a)
+-- what is found under an answer, refused at an offset
+abbrev pub foundWith : ℕ → ℕ → Numbers → ℕ → Found
+foundWith a at f l = cond (eqb a done) (Frame f l) (Fault a at)
 
 unfoldable pub foundOf : Sizes → List ℕ → Found
 foundOf z s =
     let k = toldKind s in
-    foundWith (readAnswer z s) (numbersIn s k) (kindLength k)
+    foundWith (readAnswer z s) (readOffset z s) (numbersIn s k) (kindLength k)
 
 -- what is read where this is found
 abbrev pub readingOf : Found → Reading
 readingOf (Frame f l) = Whole (messageOf f) l
-readingOf (Fault k) = Refused k
+readingOf (Fault k at) = Refused k at
 
 -- the answer of writing from what was found: of the message, of the bytes to write, and of the room
 unfoldable pub answerOf : Sizes → ℕ → ℕ → ℕ → ℕ

@@ -6,36 +6,43 @@ ghost use lib.ListN.{length};
 ghost use lib.Seq.{sets};
 ghost use lib.Count.{ones};
 ghost use Rattle.quorum.specs.Sets.{members};
-ghost use Rattle.message.specs.Faults.{faultOf};
+ghost use Rattle.base.specs.Refusals.{placeBy};
+ghost use Rattle.message.specs.Faults.{faultOf, refusalsOf};
+ghost use Rattle.layout.specs.Layout.{offsetOf};
 ghost use Rattle.layout.specs.Parts.{mostLength, Room};
-ghost use Rattle.frame.specs.Reading.{readOf, numberOf, lengthOf};
+ghost use Rattle.frame.specs.Reading.{readOf, numberOf, lengthOf, refusedAt};
 ghost use Rattle.frame.specs.Writing.{writtenOf, afterWrite};
 ghost use Rattle.frame.specs.Writing.{framesIn, writtenTo, afterWriteTo};
 ghost use Rattle.frame.specs.Parts.{foundWith, foundOf, refusedWith};
 use base::DONE;
 use base::REFUSED_CELL;
 use base::REFUSED_CUT;
+use base::REFUSED_HOST;
 use base::REFUSED_KIND;
 use base::REFUSED_LENGTH;
+use base::REFUSED_PARTY;
 use base::REFUSED_ROOM;
+use base::REFUSED_SHORT;
+use base::REFUSED_TICK;
 use message::Message;
 use message::Numbers;
 use message::Sizes;
 
-// What reading finds: a message with its frame's length, or the number of the refusal.
+// What reading finds: a message with its frame's length, or the number of the refusal and the
+// offset in the lent bytes at which it is found.
 pub enum Reading {
     Whole(Message, usize),
-    Refused(u8),
+    Refused(u8, usize),
 }
 
 impl Reading {
-    // Document 01's number: 0, or the refusal's.
+    // The answer's number: 0, or the refusal's.
     pub fn number(self) -> u8
         ensures { λ r. ⌜ r ≡ numberOf self ⌝ }
     {
         match self {
             Reading::Whole(_, _) => DONE,
-            Reading::Refused(k) => k,
+            Reading::Refused(k, _) => k,
         }
     }
 
@@ -45,27 +52,43 @@ impl Reading {
     {
         match self {
             Reading::Whole(_, len) => len,
-            Reading::Refused(_) => 0,
+            Reading::Refused(_, _) => 0,
+        }
+    }
+
+    // The offset at which reading is refused; 0 where it is not.
+    pub fn offset(self) -> usize
+        ensures { λ r. ⌜ r ≡ refusedAt self ⌝ }
+    {
+        match self {
+            Reading::Whole(_, _) => 0,
+            Reading::Refused(_, at) => at,
         }
     }
 }
 
-// What is found in lent bytes: a frame's numbers with its length, or the number of the refusal.
+// What is found in lent bytes: a frame's numbers with its length, or the number of the refusal and
+// its offset.
 pub enum Found {
     Frame(Numbers, usize),
-    Fault(u8),
+    Fault(u8, usize),
 }
 
 // Numbers with their frame's length, unless something in them is refused.
 fn read_numbers(z: Sizes, f: Numbers, len: usize) -> Found
-    ensures { λ r. ⌜ r ≡ foundWith (faultOf z f) f len ⌝ }
+    ensures { λ r. ⌜ r ≡ foundWith (faultOf z f) (placeBy (offsetOf (f .kind)) (refusalsOf z f)) f
+        len ⌝ }
 {
-    let bad = message::fault(z, f);
-    if bad == DONE {
-        Found::Frame(f, len)
-    } else {
-        Found::Fault(bad)
+    if !message::hosts_fit(z, f, f.target < z.n) {
+        return Found::Fault(REFUSED_HOST, layout::host_fault_at(z, f));
     }
+    if !message::ticks_fit(f) {
+        return Found::Fault(REFUSED_TICK, layout::tick_fault_at(f));
+    }
+    if !message::party_fits(f) {
+        return Found::Fault(REFUSED_PARTY, layout::party_at(f));
+    }
+    Found::Frame(f, len)
 }
 
 // The numbers of the frame that s begins with, and its length; bytes after it are not looked at.
@@ -73,22 +96,25 @@ pub fn find(z: Sizes, s: &[u8]) -> Found
     ensures { λ r. ⌜ r ≡ foundOf z (now (s .entry)) ⌝ }
 {
     if !message::sizes_fit(z) {
-        return Found::Fault(REFUSED_CELL);
+        return Found::Fault(REFUSED_CELL, 0);
     }
     if s.len() < layout::FORE_LENGTH {
-        return Found::Fault(REFUSED_CUT);
+        return Found::Fault(REFUSED_CUT, s.len());
     }
     let kind = wire::get(s, layout::KIND_AT, 2) as u16;
     if !message::known_kind(kind) {
-        return Found::Fault(REFUSED_KIND);
+        return Found::Fault(REFUSED_KIND, layout::KIND_AT);
     }
     let len = layout::kind_length(kind);
     let told = wire::get(s, layout::LENGTH_AT, 2);
     if told != len as u64 {
-        return Found::Fault(REFUSED_LENGTH);
+        if told < len as u64 {
+            return Found::Fault(REFUSED_SHORT, layout::LENGTH_AT);
+        }
+        return Found::Fault(REFUSED_LENGTH, layout::LENGTH_AT);
     }
     if s.len() < len {
-        return Found::Fault(REFUSED_CUT);
+        return Found::Fault(REFUSED_CUT, s.len());
     }
     read_numbers(z, layout::numbers_at(s, kind), len)
 }
@@ -99,7 +125,7 @@ pub fn read(z: Sizes, s: &[u8]) -> Reading
 {
     match find(z, s) {
         Found::Frame(f, len) => Reading::Whole(message::message_of(f), len),
-        Found::Fault(k) => Reading::Refused(k),
+        Found::Fault(k, at) => Reading::Refused(k, at),
     }
 }
 

@@ -31,7 +31,7 @@ nine f =
 -- what reading leaves of the lent numbers: a refusal leaves them as they were
 abbrev pub numbersAfter : Reading → List ℕ → List ℕ
 numbersAfter (Whole m l) out = nine (numbersOf m)
-numbersAfter (Refused k) out = out
+numbersAfter (Refused k at) out = out
 
 -- ---- writing
 

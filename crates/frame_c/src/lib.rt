@@ -3,7 +3,7 @@
 ghost use mathlib.Core.Path.{_≡_};
 ghost use lib.ListN.{length};
 ghost use Rattle.message.specs.Faults.{sizes};
-ghost use Rattle.frame.specs.Reading.{readOf, numberOf, lengthOf};
+ghost use Rattle.frame.specs.Reading.{readOf, numberOf, lengthOf, refusedAt};
 ghost use Rattle.frame_c.specs.Interface.{endOf, numbersAfter, handedNumbers, Wrote};
 ghost use Rattle.frame_c.specs.Interface.{handedWritten, afterHanded};
 ghost use Rattle.frame_c.specs.Interface.{handedWrittenTo, afterHandedTo};
@@ -32,20 +32,23 @@ fn end_of(f: Numbers) -> u64
 
 // Reads the frame that bytes begins with into the nine numbers: kind, sender, target, ballot tick,
 // ballot host, accepted tick, accepted host, owner and end, and its length. Those that the kind
-// lacks are 0. A refusal leaves the numbers, and a length of 0.
+// lacks are 0. A refusal leaves the numbers as they were, a length of 0, and its offset in the
+// bytes, which is 0 where nothing is refused.
 #[no_mangle]
 pub extern "C" fn lease_frame_read(
     n: u8,
     bytes: &[u8],
     numbers: &mut [u64; 9],
     len: &mut usize,
+    offset: &mut usize,
 ) -> u8
     ensures { λ r.
         let found = readOf (sizes n) (now (bytes .entry)) in
-        ⌜ (r ≡ numberOf found)
-        × ((now (numbers .exit) ≡ numbersAfter found (now (numbers .entry)))
-        × (now (len .exit) ≡ lengthOf found)) ⌝ }
+        ⌜ ((r ≡ numberOf found)
+        × (now (numbers .exit) ≡ numbersAfter found (now (numbers .entry))))
+        × ((now (len .exit) ≡ lengthOf found) × (now (offset .exit) ≡ refusedAt found)) ⌝ }
 {
+    *offset = 0;
     match frame::find(Sizes { n }, bytes) {
         Found::Frame(f, l) => {
             *numbers = [
@@ -62,8 +65,9 @@ pub extern "C" fn lease_frame_read(
             *len = l;
             DONE
         }
-        Found::Fault(k) => {
+        Found::Fault(k, at) => {
             *len = 0;
+            *offset = at;
             k
         }
     }

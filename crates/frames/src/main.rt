@@ -1,7 +1,8 @@
 // Shows frames being read and written: document 01's P11 and P12, each kind once, each refusal
-// once, and for each kind all 65,536 values of the length field, counted by answer. Its output is
-// held to the file stdout.
+// once, where some are found, and for each kind all 65,536 values of the length field, counted by
+// answer. Its output is held to the file stdout.
 ghost use Prim.Native.Nat.{_≤_};
+use base::REFUSED_SHORT;
 use message::LEARN;
 use message::PREPARE_REQUEST;
 use message::PREPARE_RESPONSE_EMPTY;
@@ -90,7 +91,8 @@ fn refused_readings() {
         frame::read(sample::sizes(), &[15, 0, 1]),
     );
     damaged(b"read 3 kind", 2, 7);
-    damaged(b"read 4 length", 0, 14);
+    damaged(b"read 17 short length", 0, 14);
+    damaged(b"read 4 length", 0, 16);
     show::reading(
         b"read 2 cut",
         frame::read(sample::sizes(), &[15, 0, 1, 0, 0, 2, 105]),
@@ -98,6 +100,45 @@ fn refused_readings() {
     damaged(b"read 5 host", 5, 3);
     damaged(b"read 6 tick", 13, 1);
     damaged(b"read 7 party", 14, 1);
+}
+
+fn read_longest(label: &[u8], bytes: &[u8; 33]) {
+    show::reading(label, frame::read(sample::sizes(), bytes));
+}
+
+// What is read once two bytes of a kind's sample are others.
+fn damaged_twice(label: &[u8], kind: u16, first: usize, second: usize, byte: u8) {
+    let mut bytes = sample_frame(kind);
+    if first < 33 {
+        bytes[first] = byte;
+    }
+    if second < 33 {
+        bytes[second] = byte;
+    }
+    read_longest(label, &bytes);
+}
+
+// Where a refusal is found: the first of two fields, and the party of a response.
+fn refused_offsets() {
+    damaged_twice(b"target and owner", PROPOSE_REQUEST, 5, 15, 9);
+    damaged_twice(
+        b"ballot's and accepted host",
+        PREPARE_RESPONSE_LEASE,
+        14,
+        23,
+        9,
+    );
+    damaged_twice(
+        b"accepted host and owner",
+        PREPARE_RESPONSE_LEASE,
+        23,
+        24,
+        9,
+    );
+    damaged_twice(b"accepted tick and end", PREPARE_RESPONSE_LEASE, 22, 32, 9);
+    damaged_twice(b"owner and end", LEARN, 15, 23, 9);
+    damaged_twice(b"holder's end", LEARN, 23, 23, 9);
+    damaged_twice(b"a response's party", PROPOSE_RESPONSE, 5, 5, 1);
 }
 
 // What writing P11's message, with another sender and tick, into 15 bytes answers.
@@ -183,7 +224,7 @@ fn lengths_of_kind(kind: u16) {
     let bytes = sample_frame(kind);
     show::lengths_head(kind);
     let mut answer: u8 = 0;
-    while answer < 9 {
+    while answer <= REFUSED_SHORT {
         lengths_answered(bytes, answer);
         answer = answer + 1;
     }
@@ -203,6 +244,7 @@ fn main() {
     worked();
     kinds();
     refused_readings();
+    refused_offsets();
     refused_writings();
     sets();
     all_lengths();

@@ -8,7 +8,8 @@ fn ballot(name: &[u8], b: Ballot) {
     print::number(b.host as u64);
 }
 
-// A label, the answer's number and the frame's length; of a message that was read, its numbers.
+// A label, the answer's number and the frame's length; of a message that was read, its numbers, and
+// of a refusal its offset.
 pub fn reading(label: &[u8], r: Reading) {
     print::word(label);
     print::word(b": answer");
@@ -17,8 +18,14 @@ pub fn reading(label: &[u8], r: Reading) {
     print::number(r.frame_length() as u64);
     match r {
         Reading::Whole(m, _) => numbers(message::numbers_of(m)),
-        Reading::Refused(_) => print::line_end(),
+        Reading::Refused(_, _) => offset(r.offset()),
     }
+}
+
+fn offset(at: usize) {
+    print::word(b" offset");
+    print::number(at as u64);
+    print::line_end();
 }
 
 fn numbers(f: message::Numbers) {

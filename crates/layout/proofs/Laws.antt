@@ -1,25 +1,34 @@
--- Laws of the layout: the lengths of frames, and numbers as bytes and back. Assumes nothing.
+-- Laws of the layout: the lengths of frames, where refusals are found, and numbers as bytes and
+-- back. Assumes nothing.
 use mathlib.Core.Path.{_≡_, refl, sym, ap, _∙_}
 use mathlib.Core.Bool.{Bool, true, false, cond}
 use mathlib.Core.List.{List, [], _∷_, _++_, map}
 use Prim.Native.Nat.{ℕ, _+_, _≤_, _<_}
+use native.Mathlib.Nat.{zero-add}
 use native.Mathlib.Omega.{arith}
 use lib.ListN.{length, getD, take, length-map}
-use lib.Dec.{lit<, lit≤, eqb}
+use lib.Dec.{lit<, lit≤, ltb, eqb}
+use Rattle.base.specs.Refusals.{test, allHold, testsIn, failsAt, placeBy}
+use Rattle.base.specs.Lists.{All}
+use Rattle.base.proofs.Places.{fails-append, fails-same}
 use Rattle.wire.specs.Wire.{numberAt, total, numbersAt, packed}
 use Rattle.wire.proofs.Laws.{Fits, packed-length, numbers-packed, packed-numbers, numbers-within}
+use Rattle.message.specs.declared.Sizes.{Sizes}
 use Rattle.message.specs.declared.Numbers.{Numbers}
 use Rattle.message.specs.declared.Message.{Message}
 use Rattle.message.specs.declared.Message.the-variants.{PrepareRequest, PrepareResponseEmpty}
 use Rattle.message.specs.declared.Message.the-variants.{PrepareResponseLease, ProposeRequest}
 use Rattle.message.specs.declared.Message.the-variants.{ProposeResponse, Learn}
 use Rattle.message.specs.Message.{prepareResponseLease, proposeRequest, learn, knownKind, numbersOf}
-use Rattle.message.specs.Message.{messageOf}
-use Rattle.message.specs.Faults.{Field, frameLength, kindNumber, sender, ballotTick, acceptedTick}
-use Rattle.message.specs.Faults.{acceptedHost, owner, keepersEnd, holdersEnd}
+use Rattle.message.specs.Message.{messageOf, isResponse}
+use Rattle.message.specs.Faults.{Field, settings, lentBytes, frameLength, kindNumber, sender}
+use Rattle.message.specs.Faults.{target, ballotTick, ballotHost}
+use Rattle.message.specs.Faults.{acceptedTick, acceptedHost, owner, keepersEnd, holdersEnd}
+use Rattle.message.specs.Faults.{hostTests, tickTests, partyField, partyFits, refusalsOf}
 use Rattle.message.proofs.Laws.{by-kind}
 use Rattle.layout.specs.Layout.{Fit, widthOf, common, moreOf, fieldsOf, widths, kindLength}
-use Rattle.layout.specs.Layout.{offsetIn, lengthOffset, kindOffset, foreLength}
+use Rattle.layout.specs.Layout.{fieldNumber, offsetIn, offsetOf, placeIn, lengthOffset}
+use Rattle.layout.specs.Layout.{kindOffset, foreLength}
 use Rattle.layout.specs.Layout.{valueOf, bytesIn, bytesOf, valueIn}
 use Rattle.layout.specs.Parts.{ballotOffset, headLength, mostLength, valueEnd}
 use Rattle.layout.specs.Layout.{numbersFrom, numbersIn}
@@ -93,6 +102,114 @@ value-more f =
     go false true c h m = refl
     go false false true h m = refl
     go false false false h m = absurd (h refl)
+
+-- ---- where fields stand
+
+-- a field that a kind lacks counts as past its end
+
+pub no-accepted : (k : ℕ) → eqb k prepareResponseLease ≡ false
+    → (kindLength k ≡ offsetOf k acceptedTick) × (kindLength k ≡ offsetOf k acceptedHost)
+unfolding kindLength moreOf total offsetIn
+no-accepted k e = rw e (go (eqb k proposeRequest) (eqb k learn))
+  where
+    go : (b c : Bool) → let more = moreBy false b c in
+        (lengthBy false b c ≡ offsetIn (common ++ more) acceptedTick)
+        × (lengthBy false b c ≡ offsetIn (common ++ more) acceptedHost)
+    go true c = (refl, refl)
+    go false true = (refl, refl)
+    go false false = (refl, refl)
+
+pub no-keepers : (k : ℕ) → eqb k prepareResponseLease ≡ false → eqb k proposeRequest ≡ false
+    → kindLength k ≡ offsetOf k keepersEnd
+unfolding kindLength moreOf total offsetIn
+no-keepers k e d = rw (e, d) (go (eqb k learn))
+  where
+    go : (c : Bool) → lengthBy false false c ≡ offsetIn (common ++ moreBy false false c) keepersEnd
+    go true = refl
+    go false = refl
+
+pub no-holders : (k : ℕ) → eqb k learn ≡ false → kindLength k ≡ offsetOf k holdersEnd
+unfolding kindLength moreOf total offsetIn
+no-holders k e = rw e (go (eqb k prepareResponseLease) (eqb k proposeRequest))
+  where
+    go : (a b : Bool) → lengthBy a b false ≡ offsetIn (common ++ moreBy a b false) holdersEnd
+    go true b = refl
+    go false true = refl
+    go false false = refl
+
+-- an owner that follows no accepted ballot stands behind the head
+pub owner-first : (k : ℕ) → eqb k prepareResponseLease ≡ false → headLength ≡ offsetOf k owner
+unfolding moreOf offsetIn
+owner-first k e = rw e (go (eqb k proposeRequest) (eqb k learn))
+  where
+    go : (b c : Bool) → headLength ≡ offsetIn (common ++ moreBy false b c) owner
+    go true c = refl
+    go false true = refl
+    go false false = refl
+
+-- ---- where a message's refusal is found
+
+pub fault-place : (place : Field → ℕ) (z : Sizes) (f : Numbers) →
+    let hosts = hostTests z f (ltb (f .target) (z .n)) in
+    let ticks = tickTests f in
+    placeBy place (refusalsOf z f)
+    ≡ cond (allHold hosts)
+    (cond (allHold ticks) (cond (partyFits f) 0 (place (partyField f))) (failsAt place ticks))
+    (failsAt place hosts)
+unfolding testsIn failsAt
+fault-place place z f =
+    let hosts = hostTests z f (ltb (f .target) (z .n)) in
+    let ticks = tickTests f in
+    let party = test (partyField f) (partyFits f) ∷ [] in
+    fails-append place hosts (ticks ++ party)
+    ∙ ap (λ (x : ℕ). cond (allHold hosts) x (failsAt place hosts)) (fails-append place ticks party)
+
+-- the places of a message's fields are the table's offsets, however many bytes are lent
+
+-- a field of a frame: not the lent bytes, and not the settings
+place-field : (lent k : ℕ) (x : Field) → eqb (fieldNumber x) (fieldNumber lentBytes) ≡ false
+    → eqb (fieldNumber settings) (fieldNumber x) ≡ false → placeIn lent k x ≡ offsetOf k x
+unfolding offsetIn
+place-field lent k x p q = rw (p, q, zero-add)
+
+place-party : (lent k : ℕ) (f : Numbers) → placeIn lent k (partyField f) ≡ offsetOf k (partyField f)
+place-party lent k f = go (isResponse (f .kind))
+  where
+    go : (b : Bool) → let x = cond b target sender in placeIn lent k x ≡ offsetOf k x
+    go true = place-field lent k target refl refl
+    go false = place-field lent k sender refl refl
+
+pub message-place : (lent k : ℕ) (z : Sizes) (f : Numbers)
+    → placeBy (placeIn lent k) (refusalsOf z f) ≡ placeBy (offsetOf k) (refusalsOf z f)
+unfolding testsIn All
+message-place lent k z f =
+    let e : (x : Field) → eqb (fieldNumber x) (fieldNumber lentBytes) ≡ false
+    → eqb (fieldNumber settings) (fieldNumber x) ≡ false → placeIn lent k x ≡ offsetOf k x =
+    place-field lent k in
+    fails-same (placeIn lent k) (offsetOf k) (testsIn (refusalsOf z f)) (
+      e sender refl refl,
+      (
+        e target refl refl,
+        (
+          e ballotHost refl refl,
+          (
+            e acceptedHost refl refl,
+            (
+              e owner refl refl,
+              (
+                e ballotTick refl refl,
+                (
+                  e acceptedTick refl refl,
+                  (e keepersEnd refl refl, (e holdersEnd refl refl, (place-party lent k f, tt))),
+                ),
+              ),
+            ),
+          ),
+        ),
+      ),
+    )
+
+-- ---- numbers as bytes
 
 -- a frame is as long as its kind's are
 pub bytes-length : (f : Numbers) → length (bytesOf f) ≡ kindLength (f .kind)

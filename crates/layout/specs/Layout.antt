@@ -1,9 +1,10 @@
--- The layout of frames: document 01's fields, their widths and their order, and a frame's bytes as
--- numbers and back. Assumes nothing.
+-- The layout of frames: document 01's fields, their widths and their order, where a refusal is
+-- found among them, and a frame's bytes as numbers and back. Assumes nothing.
 use Prim.Native.Nat.{ℕ, _+_, _^_, _<_}
 use mathlib.Core.Bool.{cond}
 use mathlib.Core.List.{List, [], _∷_, _++_, map}
-use lib.Dec.{eqb}
+use lib.Dec.{leb, eqb}
+use Rattle.base.specs.Refusals.{test, Refusal, refusal, refusedLength, refusedShort}
 use Rattle.wire.specs.Wire.{total, numbersAt, packed}
 use Rattle.message.specs.declared.Numbers.{Numbers}
 use Rattle.message.specs.Message.{prepareResponseLease, proposeRequest, learn}
@@ -75,6 +76,12 @@ offsetIn (f ∷ fs) x = cond (eqb (fieldNumber f) (fieldNumber x)) 0 (widthOf f 
 abbrev pub offsetOf : ℕ → Field → ℕ
 offsetOf k x = offsetIn (fieldsOf k) x
 
+-- where a refusal is found, with this many bytes lent and a frame of kind k: bytes are missing past
+-- all that were lent; the settings beside them count as a field of no bytes before the first
+abbrev pub placeIn : ℕ → ℕ → Field → ℕ
+placeIn lent k x =
+    cond (eqb (fieldNumber x) (fieldNumber lentBytes)) lent (offsetIn (settings ∷ fieldsOf k) x)
+
 -- where length and kind stand, and how long these two are, which every frame begins with
 abbrev pub lengthOffset : ℕ
 lengthOffset = 0
@@ -84,6 +91,13 @@ kindOffset = 2
 
 abbrev pub foreLength : ℕ
 foreLength = 4
+
+-- 17 or 4: a length field below or above the length that it has to tell
+abbrev pub lengthRefusals : ℕ → ℕ → List (Refusal Field)
+lengthRefusals told right =
+    refusal refusedShort (test frameLength (leb right told) ∷ [])
+    ∷ refusal refusedLength (test frameLength (leb told right) ∷ [])
+    ∷ []
 
 -- ---- numbers as bytes
 

@@ -1,13 +1,18 @@
 // Where each field of a frame stands: a message's numbers read from lent bytes and written into
-// them. An end is a plain number only here, between its field and its own type.
+// them, and the offset of what is refused in them. An end is a plain number only here, between its
+// field and its own type.
 ghost use mathlib.Core.Path.{_≡_};
 ghost use mathlib.Core.List.{[], _∷_};
 ghost use Prim.Native.Nat.{_+_, _≤_};
 ghost use lib.ListN.{length};
+ghost use lib.Dec.{ltb};
 ghost use lib.Seq.{sets};
 ghost use Rattle.wire.specs.Wire.{packed};
+ghost use Rattle.base.specs.Refusals.{failsAt};
 ghost use Rattle.message.specs.Message.{prepareResponseLease};
-ghost use Rattle.layout.specs.Layout.{moreOf, kindLength, bytesIn};
+ghost use Rattle.message.specs.Faults.{acceptedTick, acceptedHost, owner, keepersEnd, holdersEnd};
+ghost use Rattle.message.specs.Faults.{hostTests, tickTests, partyField};
+ghost use Rattle.layout.specs.Layout.{moreOf, kindLength, offsetOf, bytesIn};
 ghost use Rattle.layout.specs.Layout.{bytesOf, numbersIn};
 ghost use Rattle.layout.specs.Parts.{ballotOffset, headLength, headAt, leaseAt, valueEnd};
 ghost use Rattle.layout.specs.Parts.{Room};
@@ -15,14 +20,17 @@ use message::Ballot;
 use message::Head;
 use message::HoldersEnd;
 use message::KeepersEnd;
+use message::LAST_END;
+use message::LAST_TICK;
 use message::LEARN;
 use message::Lease;
 use message::Numbers;
 use message::PREPARE_RESPONSE_LEASE;
 use message::PROPOSE_REQUEST;
+use message::Sizes;
 
-// The table of offsets, which reading and writing share. Every frame begins with its head: length,
-// kind, sender, target and ballot.
+// The table of offsets, which reading, refusing and writing share. Every frame begins with its
+// head: length, kind, sender, target and ballot.
 pub const LENGTH_AT: usize = 0;
 
 pub const KIND_AT: usize = 2;
@@ -66,6 +74,110 @@ pub fn kind_length(kind: u16) -> usize
         PROPOSE_REQUEST => VALUE_LENGTH,
         LEARN => VALUE_LENGTH,
         _ => HEAD_LENGTH,
+    }
+}
+
+// Where a field that not every kind has stands in a frame of a kind; past its end where the kind
+// lacks it.
+fn accepted_at(kind: u16) -> usize
+    ensures { λ r. ⌜ r ≡ offsetOf kind acceptedTick ⌝ }
+{
+    if kind == PREPARE_RESPONSE_LEASE {
+        ACCEPTED_AT
+    } else {
+        kind_length(kind)
+    }
+}
+
+fn accepted_host_at(kind: u16) -> usize
+    ensures { λ r. ⌜ r ≡ offsetOf kind acceptedHost ⌝ }
+{
+    if kind == PREPARE_RESPONSE_LEASE {
+        ACCEPTED_HOST_AT
+    } else {
+        kind_length(kind)
+    }
+}
+
+fn owner_at(kind: u16) -> usize
+    ensures { λ r. ⌜ r ≡ offsetOf kind owner ⌝ }
+{
+    if kind == PREPARE_RESPONSE_LEASE {
+        LEASE_OWNER_AT
+    } else {
+        OWNER_AT
+    }
+}
+
+fn keepers_end_at(kind: u16) -> usize
+    ensures { λ r. ⌜ r ≡ offsetOf kind keepersEnd ⌝ }
+{
+    match kind {
+        PREPARE_RESPONSE_LEASE => LEASE_END_AT,
+        PROPOSE_REQUEST => END_AT,
+        _ => kind_length(kind),
+    }
+}
+
+fn holders_end_at(kind: u16) -> usize
+    ensures { λ r. ⌜ r ≡ offsetOf kind holdersEnd ⌝ }
+{
+    if kind == LEARN {
+        END_AT
+    } else {
+        kind_length(kind)
+    }
+}
+
+// Where the first host number of n or more stands, or 0.
+pub fn host_fault_at(z: Sizes, f: Numbers) -> usize
+    ensures { λ r. ⌜ r ≡ failsAt (offsetOf (f .kind)) (hostTests z f (ltb (f .target) (z .n))) ⌝ }
+{
+    if z.n <= f.sender {
+        return SENDER_AT;
+    }
+    if z.n <= f.target {
+        return TARGET_AT;
+    }
+    if z.n <= f.ballot.host {
+        return BALLOT_HOST_AT;
+    }
+    if z.n <= f.accepted.host {
+        return accepted_host_at(f.kind);
+    }
+    if z.n <= f.owner {
+        return owner_at(f.kind);
+    }
+    0
+}
+
+// Where the first tick or end above its limit stands, or 0.
+pub fn tick_fault_at(f: Numbers) -> usize
+    ensures { λ r. ⌜ r ≡ failsAt (offsetOf (f .kind)) (tickTests f) ⌝ }
+{
+    if LAST_TICK < f.ballot.tick {
+        return BALLOT_AT;
+    }
+    if LAST_TICK < f.accepted.tick {
+        return accepted_at(f.kind);
+    }
+    if LAST_END < f.keepers.0 {
+        return keepers_end_at(f.kind);
+    }
+    if LAST_END < f.holders.0 {
+        return holders_end_at(f.kind);
+    }
+    0
+}
+
+// Where the party stands that has to be the ballot's host.
+pub fn party_at(f: Numbers) -> usize
+    ensures { λ r. ⌜ r ≡ offsetOf (f .kind) (partyField f) ⌝ }
+{
+    if message::is_response(f.kind) {
+        TARGET_AT
+    } else {
+        SENDER_AT
     }
 }
 

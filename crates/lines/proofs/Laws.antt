@@ -29,9 +29,6 @@ pub last-length : (n : ℕ) → length (lastOf n) ≡ length (decimal n) + 2
 unfolding lastOf
 last-length n = omega (arith, length-append (decimal n) (10 ∷ []))
 
-pub last-8 : (n : ℕ) → n < 2 ^ 8 → length (lastOf n) ≤ 5
-last-8 n h = omega (arith, last-length n, most-8 n h)
-
 pub last-64 : (n : ℕ) → n < 2 ^ 64 → length (lastOf n) ≤ 22
 last-64 n h = omega (arith, last-length n, most-64 n h)
 

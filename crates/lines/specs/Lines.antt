@@ -15,8 +15,8 @@ pub data Line : Type 0 where
   settings : Settings → ℕ → Line
   -- an event's place from 1, its kind, its answer, and whom each host names
   event : ℕ → ℕ → ℕ → List Named → Line
-  -- the byte offset of a record, and the number of its fault
-  stop : ℕ → ℕ → Line
+  -- the byte offset of a record, the number of its fault, and the fault's offset in the record
+  stop : ℕ → ℕ → ℕ → Line
   -- how many events were applied, and how many refused
   counts : ℕ → ℕ → Line
 
@@ -59,7 +59,7 @@ lineText (settings s clock) =
     decimal (s .n) ++ (spaced (s .longest) ++ (spaced (s .spread) ++ lastOf clock))
 lineText (event place kind answer names) =
     eventHead place kind answer ++ (namesText names ++ (10 ∷ []))
-lineText (stop at number) = stopWord ++ (spaced at ++ lastOf number)
+lineText (stop at number offset) = stopWord ++ (spaced at ++ (spaced number ++ lastOf offset))
 lineText (counts applied refused) =
     appliedWord ++ (spaced applied ++ (refusedWord ++ lastOf refused))
 

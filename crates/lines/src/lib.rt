@@ -19,15 +19,16 @@ fn put_last(out: &mut [u8], at: usize, n: u64) -> usize
     text::put_byte(out, end, b'\n')
 }
 
-// `stop`, the byte offset of a record, and its fault's number.
-pub fn put_stop(out: &mut [u8], at: usize, offset: usize, number: u8) -> usize
-    requires { ⌜ at + 32 ≤ length (now out) ⌝ }
-    ensures { λ r. ⌜ Put (now (out .entry)) at (lineText (stop offset number)) r (now (out .exit))
-        × (r ≤ at + 32) ⌝ }
+// `stop`, the byte offset of a record, its fault's number, and the fault's offset in the record.
+pub fn put_stop(out: &mut [u8], at: usize, place: usize, number: u8, offset: usize) -> usize
+    requires { ⌜ at + 64 ≤ length (now out) ⌝ }
+    ensures { λ r. ⌜ Put (now (out .entry)) at (lineText (stop place number offset)) r
+        (now (out .exit)) × (r ≤ at + 64) ⌝ }
 {
     let a = text::put_word(out, at, b"stop");
-    let b = text::put_spaced(out, a, offset as u64);
-    put_last(out, b, number as u64)
+    let b = text::put_spaced(out, a, place as u64);
+    let c = text::put_spaced(out, b, number as u64);
+    put_last(out, c, offset as u64)
 }
 
 // How many events were applied, and how many refused.

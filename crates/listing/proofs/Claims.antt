@@ -16,7 +16,7 @@ use Rattle.cell.specs.declared.Event.{Event}
 use Rattle.cell.specs.Events.{cellOf, openingRefusal, eventOf}
 use Rattle.cell.specs.Runs.{opening, run, answers}
 use Rattle.record.specs.declared.First.{First}
-use Rattle.record.specs.Record.{kindOf, firstRecord}
+use Rattle.record.specs.Record.{kindOf, firstRecord, openingOffset}
 use Rattle.record.proofs.Laws.{first-shorter}
 use Rattle.lines.specs.Lines.{Line, settings, event, stop, counts}
 use Rattle.listing.specs.Listing.{Script, ends, cuts, then, eventsOf, namesOf, eventLines}
@@ -55,7 +55,7 @@ answers-events place c (e ∷ es) ls z =
 answers-end : (s : Script) (a r : ℕ) → answersIn (stopLines s ++ (counts a r ∷ [])) ≡ []
 unfolding stopLines answersIn
 answers-end ends a r = refl
-answers-end (cuts at f) a r = refl
+answers-end (cuts at f o) a r = refl
 answers-end (then e s) a r = answers-end s a r
 
 counts-events : (xs : List ℕ) (place : ℕ) (c : Cell) (es : List Event) (ls : List Line)
@@ -70,13 +70,13 @@ counts-end : (xs : List ℕ) (s : Script) (l : Line) → CountsOf xs l
     → All (CountsOf xs) (stopLines s ++ (l ∷ []))
 unfolding stopLines All CountsOf
 counts-end xs ends l p = (p, tt)
-counts-end xs (cuts at f) l p = (tt, (p, tt))
+counts-end xs (cuts at f o) l p = (tt, (p, tt))
 counts-end xs (then e s) l p = counts-end xs s l p
 
 -- one line that has no counts
-lone : (at f : ℕ) → All (CountsOf (answersIn (stop at f ∷ []))) (stop at f ∷ [])
+lone : (at f o : ℕ) → All (CountsOf (answersIn (stop at f o ∷ []))) (stop at f o ∷ [])
 unfolding All CountsOf
-lone at f = (tt, tt)
+lone at f o = (tt, tt)
 
 script-counted : (g : Settings) (clock : ℕ) (c : Cell) (s : Script)
     → let ls = settings g clock ∷ scriptLines c s in All (CountsOf (answersIn ls)) ls
@@ -96,24 +96,25 @@ opened-counted s g clock = go (eqb (openingRefusal g clock) done)
     go : (b : Bool)
         → let ls =
         cond b (settings g clock ∷ scriptLines (opening g clock) (scriptOf s))
-        (stop 0 (openingRefusal g clock) ∷ []) in All (CountsOf (answersIn ls)) ls
+        (stop 0 (openingRefusal g clock) (openingOffset g clock) ∷ []) in
+        All (CountsOf (answersIn ls)) ls
     go true = script-counted g clock (opening g clock) (scriptOf s)
-    go false = lone 0 (openingRefusal g clock)
+    go false = lone 0 (openingRefusal g clock) (openingOffset g clock)
 
 first-counted : (s : List ℕ) (f : First) → let ls = firstLines s f in
     All (CountsOf (answersIn ls)) ls
 unfolding firstLines
-first-counted s (First.Fault f) = lone 0 f
+first-counted s (First.Fault f o) = lone 0 f o
 first-counted s (First.Given g clock) = opened-counted s g clock
 
 counted : (s : List ℕ) → All (CountsOf (answersIn (linesOf s))) (linesOf s)
 unfolding linesOf
 counted s = go (leb (length s) longestRun)
   where
-    go : (b : Bool) → let ls = cond b (firstLines s (firstRecord s)) (stop 0 refusedLong ∷ []) in
+    go : (b : Bool) → let ls = cond b (firstLines s (firstRecord s)) (stop 0 refusedLong 0 ∷ []) in
         All (CountsOf (answersIn ls)) ls
     go true = first-counted s (firstRecord s)
-    go false = lone 0 refusedLong
+    go false = lone 0 refusedLong 0
 
 -- ---- whole records and the stop
 
@@ -135,7 +136,8 @@ opened s g clock ls e = shorts (leb (length s) longestRun) refl e
     fines : leb (length s) longestRun ≡ true → (h : Settings) (d : ℕ)
         → firstRecord s ≡ First.Given h d → (b : Bool) → eqb (openingRefusal h d) done ≡ b
         → cond b (settings h d ∷ scriptLines (opening h d) (scriptOf s))
-        (stop 0 (openingRefusal h d) ∷ []) ≡ settings g clock ∷ ls → Opened s g clock
+        (stop 0 (openingRefusal h d) (openingOffset h d) ∷ []) ≡ settings g clock ∷ ls
+        → Opened s g clock
     fines l h d q true p z =
         let i = is-settings z in
         record { short = l; first = rw (← i .0, ← i .1) q; fine = rw (← i .0, ← i .1) p }
@@ -143,11 +145,11 @@ opened s g clock ls e = shorts (leb (length s) longestRun) refl e
 
     firsts : leb (length s) longestRun ≡ true → (f : First) → firstRecord s ≡ f
         → firstLines s f ≡ settings g clock ∷ ls → Opened s g clock
-    firsts l (First.Fault f) q z = absurd (let x : _≡_ {A = ℕ} 0 1 = cc in omega arith)
+    firsts l (First.Fault f o) q z = absurd (let x : _≡_ {A = ℕ} 0 1 = cc in omega arith)
     firsts l (First.Given h d) q z = fines l h d q (eqb (openingRefusal h d) done) refl z
 
     shorts : (b : Bool) → leb (length s) longestRun ≡ b
-        → cond b (firstLines s (firstRecord s)) (stop 0 refusedLong ∷ []) ≡ settings g clock ∷ ls
+        → cond b (firstLines s (firstRecord s)) (stop 0 refusedLong 0 ∷ []) ≡ settings g clock ∷ ls
         → Opened s g clock
     shorts true l z = firsts l (firstRecord s) refl z
     shorts false l z = absurd (let x : _≡_ {A = ℕ} 0 1 = cc in omega arith)
@@ -158,34 +160,34 @@ lines-opened : (s : List ℕ) (g : Settings) (clock : ℕ) → Opened s g clock
 unfolding linesOf firstLines openedLines
 lines-opened s g clock o = rw (o .short, o .first, o .fine)
 
-whole : (s : List ℕ) (at f : ℕ) (g : Settings) (clock : ℕ) (ls : List Line)
-    → linesOf s ≡ settings g clock ∷ ls → StopsAt at f (scriptOf s)
+whole : (s : List ℕ) (at f o : ℕ) (g : Settings) (clock : ℕ) (ls : List Line)
+    → linesOf s ≡ settings g clock ∷ ls → StopsAt at f o (scriptOf s)
     → let es = eventsOf (scriptOf s) in
     let c = opening g clock in
     (linesOf s ≡ settings g clock
-    ∷ (eventLines 1 c es ++ (stop at f ∷ countsOf (answers c es) ∷ [])))
+    ∷ (eventLines 1 c es ++ (stop at f o ∷ countsOf (answers c es) ∷ [])))
     × (linesOf (take at s) ≡ settings g clock
     ∷ (eventLines 1 c es ++ (countsOf (answers c es) ∷ [])))
 unfolding scriptLines
-whole s at f g clock ls e z =
-    let o = opened s g clock ls e in
-    let r = stopped-at s at f z in
+whole s at f o g clock ls e z =
+    let begun = opened s g clock ls e in
+    let r = stopped-at s at f o z in
     let l : length (take at s) ≤ longestRun =
     omega (
       arith,
       length-take-le at s (omega (arith, r .inside)),
       r .inside,
-      leb-true (length s) longestRun (o .short),
+      leb-true (length s) longestRun (begun .short),
     ) in
     let t : Opened (take at s) g clock =
     record {
       short = le-leb (length (take at s)) longestRun l;
-      first = first-shorter s g clock at (o .first) (r .past);
-      fine = o .fine;
+      first = first-shorter s g clock at (begun .first) (r .past);
+      fine = begun .fine;
     } in (
-      lines-opened s g clock o ∙ rw (stop-line at f (scriptOf s) z),
+      lines-opened s g clock begun ∙ rw (stop-line at f o (scriptOf s) z),
       lines-opened (take at s) g clock t
-          ∙ rw (script-taken s at f z, uncut-events (scriptOf s), uncut-stop (scriptOf s)),
+          ∙ rw (script-taken s at f o z, uncut-events (scriptOf s), uncut-stop (scriptOf s)),
     )
 
 pub claims : Claims

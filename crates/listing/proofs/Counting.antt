@@ -52,7 +52,7 @@ lines-after : (a r : ℕ) (c : Cell) (s : Script)
     ++ (stopLines s ++ (counts (a + zeros xs) (r + others xs) ∷ []))
 unfolding linesAfter eventLines eventsOf stopLines answers zeros others
 lines-after a r c ends = simp add-zero
-lines-after a r c (cuts at f) = simp add-zero
+lines-after a r c (cuts at f o) = simp add-zero
 lines-after a r c (then e more) =
     let x = eventOf c e .answer in
     let c′ = cellOf (eventOf c e) in

@@ -20,10 +20,11 @@ pub no-fault : (at a r : ℕ) (x : Record) → NoFault x
     → textOf (lastLines at a r x) ≡ lineText (counts a r)
 unfolding lastLines textOf
 no-fault at a r Record.End t = append-nil _
-no-fault at a r (Record.Fault k) t = absurd (⊎-elim (λ h. omega arith) (λ h. omega arith) t)
+no-fault at a r (Record.Fault k o) t = absurd (⊎-elim (λ h. omega arith) (λ h. omega arith) t)
 no-fault at a r (Record.Event e next) t = append-nil _
 
-pub last-fault : (at a r f : ℕ)
-    → textOf (lastLines at a r (Record.Fault f)) ≡ lineText (stop at f) ++ lineText (counts a r)
+pub last-fault : (at a r f o : ℕ)
+    → textOf (lastLines at a r (Record.Fault f o))
+    ≡ lineText (stop at f o) ++ lineText (counts a r)
 unfolding lastLines textOf
-last-fault at a r f = ap (λ (bytes : List ℕ). lineText (stop at f) ++ bytes) (append-nil _)
+last-fault at a r f o = ap (λ (bytes : List ℕ). lineText (stop at f o) ++ bytes) (append-nil _)

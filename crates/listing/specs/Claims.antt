@@ -20,21 +20,21 @@ unfoldable pub answersIn : List Line → List ℕ
 answersIn [] = []
 answersIn (settings s clock ∷ ls) = answersIn ls
 answersIn (event place kind number names ∷ ls) = number ∷ answersIn ls
-answersIn (stop at f ∷ ls) = answersIn ls
+answersIn (stop at f o ∷ ls) = answersIn ls
 answersIn (counts a r ∷ ls) = answersIn ls
 
 -- a line of counts has the numbers of zero and of other answers among these
 unfoldable pub CountsOf : List ℕ → Line → Type 0
 CountsOf xs (settings s clock) = Unit
 CountsOf xs (event place kind number names) = Unit
-CountsOf xs (stop at f) = Unit
+CountsOf xs (stop at f o) = Unit
 CountsOf xs (counts a r) = (a ≡ zeros xs) × (r ≡ others xs)
 
--- a script ends in the fault of this number, at this offset
-unfoldable pub StopsAt : ℕ → ℕ → Script → Type 0
-StopsAt at f ends = ⊥
-StopsAt at f (cuts place number) = (place ≡ at) × (number ≡ f)
-StopsAt at f (then e s) = StopsAt at f s
+-- a script ends in the fault of this number, in the record at this offset, at that offset in it
+unfoldable pub StopsAt : ℕ → ℕ → ℕ → Script → Type 0
+StopsAt at f o ends = ⊥
+StopsAt at f o (cuts place number offset) = (place ≡ at) × ((number ≡ f) × (offset ≡ o))
+StopsAt at f o (then e s) = StopsAt at f o s
 
 pub record Claims : Type 0 where
   -- the counts are the numbers of zero and of other answers in the event lines
@@ -50,11 +50,11 @@ pub record Claims : Type 0 where
       ∷ eventLines (suc (place + length before)) next after)
   -- the listing of a file that stops at an offset is that of the whole records before it, with the
   -- stop before the counts
-  pub whole : (s : List ℕ) (at f : ℕ) (g : Settings) (clock : ℕ) (ls : List Line)
-      → linesOf s ≡ settings g clock ∷ ls → StopsAt at f (scriptOf s)
+  pub whole : (s : List ℕ) (at f o : ℕ) (g : Settings) (clock : ℕ) (ls : List Line)
+      → linesOf s ≡ settings g clock ∷ ls → StopsAt at f o (scriptOf s)
       → let es = eventsOf (scriptOf s) in
       let c = opening g clock in
       (linesOf s ≡ settings g clock
-      ∷ (eventLines 1 c es ++ (stop at f ∷ countsOf (answers c es) ∷ [])))
+      ∷ (eventLines 1 c es ++ (stop at f o ∷ countsOf (answers c es) ∷ [])))
       × (linesOf (take at s) ≡ settings g clock
       ∷ (eventLines 1 c es ++ (countsOf (answers c es) ∷ [])))

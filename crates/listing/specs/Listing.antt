@@ -14,21 +14,22 @@ use Rattle.cell.specs.Events.{cellOf, openingRefusal, eventOf}
 use Rattle.cell.specs.Runs.{opening, answers}
 use Rattle.record.specs.declared.Record.{Record}
 use Rattle.record.specs.declared.First.{First}
-use Rattle.record.specs.Record.{kindOf, recordAt, firstRecord}
+use Rattle.record.specs.Record.{kindOf, recordAt, firstRecord, openingOffset}
 use Rattle.lines.specs.Lines.{Line, settings, event, stop, counts, namesFrom, textOf}
 use Rattle.listing.specs.declared.Listed.{Listed}
 
 -- ---- what a run file says from an offset on
 
--- its events, and how they end: with the file, or in a fault at an offset
+-- its events, and how they end: with the file, or in a fault at an offset, of a number and at an
+-- offset of its record
 pub data Script : Type 0 where
   ends : Script
-  cuts : ℕ → ℕ → Script
+  cuts : ℕ → ℕ → ℕ → Script
   then : Event → Script → Script
 
 abbrev pub scriptWith : ℕ → Record → (ℕ → Script) → Script
 scriptWith at Record.End more = ends
-scriptWith at (Record.Fault f) more = cuts at f
+scriptWith at (Record.Fault f o) more = cuts at f o
 scriptWith at (Record.Event e next) more = then e (more next)
 
 -- at most k records
@@ -46,7 +47,7 @@ scriptOf s = scriptFrom (length s) s settingsLength
 
 unfoldable pub eventsOf : Script → List Event
 eventsOf ends = []
-eventsOf (cuts at f) = []
+eventsOf (cuts at f o) = []
 eventsOf (then e more) = e ∷ eventsOf more
 
 -- ---- its lines
@@ -63,10 +64,11 @@ eventLines place c (e ∷ es) =
     let a = eventOf c e in
     event place (kindOf e) (a .answer) (namesOf (cellOf a)) ∷ eventLines (suc place) (cellOf a) es
 
--- 'a record fault ends the run with a line `stop`, its byte offset and its number'
+-- 'a record fault ends the run with a line `stop`, its byte offset and its number', and the offset
+-- in the record
 unfoldable pub stopLines : Script → List Line
 stopLines ends = []
-stopLines (cuts at f) = stop at f ∷ []
+stopLines (cuts at f o) = stop at f o ∷ []
 stopLines (then e more) = stopLines more
 
 -- how many of these numbers are 0, and how many are not
@@ -88,26 +90,26 @@ scriptLines c s =
     let es = eventsOf s in
     eventLines 1 c es ++ (stopLines s ++ (countsOf (answers c es) ∷ []))
 
--- 'settings that opening refuses .. print only `stop 0` and the number'
+-- 'settings that opening refuses .. print only `stop 0` and the number', and their field's offset
 unfoldable pub openedLines : List ℕ → Settings → ℕ → List Line
 openedLines s g clock =
     let refusal = openingRefusal g clock in
     cond (eqb refusal done) (settings g clock ∷ scriptLines (opening g clock) (scriptOf s))
-    (stop 0 refusal ∷ [])
+    (stop 0 refusal (openingOffset g clock) ∷ [])
 
 -- and so does 'a fault in the first record'; an empty file has one, 2
 unfoldable pub firstLines : List ℕ → First → List Line
-firstLines s (First.Fault f) = stop 0 f ∷ []
+firstLines s (First.Fault f o) = stop 0 f o ∷ []
 firstLines s (First.Given g clock) = openedLines s g clock
 
 -- the longest run file
 abbrev pub longestRun : ℕ
 longestRun = 65536
 
--- 'so does 16, which comes before all else'
+-- 'so does 16, which comes before all else', at 0
 unfoldable pub linesOf : List ℕ → List Line
 linesOf s =
-    cond (leb (length s) longestRun) (firstLines s (firstRecord s)) (stop 0 refusedLong ∷ [])
+    cond (leb (length s) longestRun) (firstLines s (firstRecord s)) (stop 0 refusedLong 0 ∷ [])
 
 -- ---- its bytes, and what the function gives and leaves
 

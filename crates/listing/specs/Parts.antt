@@ -25,7 +25,7 @@ doneOf answer = cond (eqb answer done) 1 0
 -- the lines still to come, where so many events were applied and refused before
 unfoldable pub linesAfter : ℕ → ℕ → Cell → Script → List Line
 linesAfter a r c ends = counts a r ∷ []
-linesAfter a r c (cuts at f) = stop at f ∷ counts a r ∷ []
+linesAfter a r c (cuts at f o) = stop at f o ∷ counts a r ∷ []
 linesAfter a r c (then e more) =
     let x = eventOf c e in
     let d = doneOf (x .answer) in
@@ -35,7 +35,7 @@ linesAfter a r c (then e more) =
 -- how a listing ends at a record that is no event
 unfoldable pub lastLines : ℕ → ℕ → ℕ → Record → List Line
 lastLines at a r Record.End = counts a r ∷ []
-lastLines at a r (Record.Fault f) = stop at f ∷ counts a r ∷ []
+lastLines at a r (Record.Fault f o) = stop at f o ∷ counts a r ∷ []
 lastLines at a r (Record.Event e next) = counts a r ∷ []
 
 -- what the walk of a run file of whole settings supposes

@@ -61,9 +61,9 @@ pub fn put_end(out: &mut [u8], w: Walk, r: Record) -> usize
     ensures { λ n. ⌜ Put (now (out .entry)) (w .pos)
         (textOf (lastLines (w .at) (w .applied) (w .refused) r)) n (now (out .exit)) ⌝ }
 {
-    let Record::Fault(number) = r else {
+    let Record::Fault(number, offset) = r else {
         return lines::put_counts(out, w.pos, w.applied, w.refused);
     };
-    let end = lines::put_stop(out, w.pos, w.at, number);
+    let end = lines::put_stop(out, w.pos, w.at, number, offset);
     lines::put_counts(out, end, w.applied, w.refused)
 }

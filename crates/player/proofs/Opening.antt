@@ -14,7 +14,7 @@ use Rattle.cell.specs.declared.Answered.{Answered}
 use Rattle.cell.specs.Events.{answeredWith, cellOf, openingRefusal, openedWith, leastSettings}
 use Rattle.cell.specs.Events.{openingOf}
 use Rattle.record.specs.declared.First.{First}
-use Rattle.record.specs.Record.{firstRecord}
+use Rattle.record.specs.Record.{firstRecord, openingOffset}
 use Rattle.lines.specs.Lines.{settings, stop, lineText, textOf}
 use Rattle.listing.specs.Listing.{scriptOf, openedLines, firstLines, longestRun, linesOf}
 use Rattle.listing.specs.Listing.{listingOf}
@@ -43,18 +43,20 @@ opening-vacant s clock =
     (answeredWith (openingRefusal s clock) (openedWith leastSettings 0)) (λ _. none) (λ _. none)
 
 -- a lone stop
-stop-text : (at f : ℕ) → textOf (stop at f ∷ []) ≡ lineText (stop at f)
+stop-text : (at f o : ℕ) → textOf (stop at f o ∷ []) ≡ lineText (stop at f o)
 unfolding textOf
-stop-text at f = append-nil _
+stop-text at f o = append-nil _
 
 module _ (run : List ℕ) (s : Settings) (clock : ℕ) (a : Answered) (q : a ≡ openingOf s clock) where
   answered : a .answer ≡ openingRefusal s clock
   answered = ap (λ (x : Answered). x .answer) q ∙ opening-number s clock
 
   pub opened-refused : (a .answer ≡ done → ⊥)
-      → textOf (openedLines run s clock) ≡ lineText (stop 0 (a .answer))
+      → textOf (openedLines run s clock) ≡ lineText (stop 0 (a .answer) (openingOffset s clock))
   unfolding openedLines
-  opened-refused n = rw (← answered, ne-eqb (a .answer) done n) (stop-text 0 (a .answer))
+  opened-refused n =
+      rw (← answered, ne-eqb (a .answer) done n)
+      (stop-text 0 (a .answer) (openingOffset s clock))
 
   pub opened-done : a .answer ≡ done
       → textOf (openedLines run s clock) ≡ lineText (settings s clock)
@@ -63,14 +65,14 @@ module _ (run : List ℕ) (s : Settings) (clock : ℕ) (a : Answered) (q : a ≡
   opened-done e = rw (← answered, eq-eqb (a .answer) done e, lines-all (cellOf a) (scriptOf run), q)
 
 pub listing-long : (s : List ℕ) → longestRun < length s
-    → listingOf s ≡ lineText (stop 0 refusedLong)
+    → listingOf s ≡ lineText (stop 0 refusedLong 0)
 unfolding listingOf linesOf
-listing-long s l = rw (lt-leb (length s) longestRun l) (stop-text 0 refusedLong)
+listing-long s l = rw (lt-leb (length s) longestRun l) (stop-text 0 refusedLong 0)
 
-pub listing-fault : (s : List ℕ) (f : ℕ) → length s ≤ longestRun → firstRecord s ≡ First.Fault f
-    → listingOf s ≡ lineText (stop 0 f)
+pub listing-fault : (s : List ℕ) (f o : ℕ) → length s ≤ longestRun
+    → firstRecord s ≡ First.Fault f o → listingOf s ≡ lineText (stop 0 f o)
 unfolding listingOf linesOf firstLines
-listing-fault s f l e = rw (le-leb (length s) longestRun l, e) (stop-text 0 f)
+listing-fault s f o l e = rw (le-leb (length s) longestRun l, e) (stop-text 0 f o)
 
 pub listing-opened : (s : List ℕ) (g : Settings) (clock : ℕ) → length s ≤ longestRun
     → firstRecord s ≡ First.Given g clock

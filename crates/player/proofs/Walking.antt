@@ -147,9 +147,9 @@ going-end run out₀ from c₀ out out₁ c w Record.End end g f t p =
     todo-last
     (rw (script-step run (w .at) (w .applied + w .refused) Record.End
     (omega (arith, g .few, g .inside)) f) at (g .todo)) p
-going-end run out₀ from c₀ out out₁ c w (Record.Fault k) end g f t p =
+going-end run out₀ from c₀ out out₁ c w (Record.Fault k o) end g f t p =
     todo-last
-    (rw (script-step run (w .at) (w .applied + w .refused) (Record.Fault k)
+    (rw (script-step run (w .at) (w .applied + w .refused) (Record.Fault k o)
     (omega (arith, g .few, g .inside)) f) at (g .todo)) p
 going-end run out₀ from c₀ out out₁ c w (Record.Event e next) end g f t p =
     absurd (⊎-elim (λ h. omega arith) (λ h. omega arith) t)

@@ -184,7 +184,7 @@ fn put_opened(run: &[u8], out: &mut [u8], s: Settings, clock: u64) -> usize
     let a = cell::open(s, clock);
     let answer = a.answer;
     if answer != DONE {
-        return lines::put_stop(out, 0, 0, answer);
+        return lines::put_stop(out, 0, 0, answer, record::opening_offset(s, clock));
     }
     let pos = lines::put_settings(out, 0, s, clock);
     put_script(run, out, pos, a)
@@ -196,11 +196,13 @@ fn put_listing(run: &[u8], out: &mut [u8]) -> usize
     ensures { λ r. ⌜ Put (now (out .entry)) 0 (listingOf (now (run .entry))) r (now (out .exit)) ⌝ }
 {
     if listing::is_long(run.len()) {
-        return lines::put_stop(out, 0, 0, REFUSED_LONG);
+        return lines::put_stop(out, 0, 0, REFUSED_LONG, 0);
     }
     let first = record::first_record(run);
     let First::Given(s, clock) = first else {
-        return lines::put_stop(out, 0, 0, record::first_fault(first));
+        let number = record::first_fault(first);
+        let offset = record::first_offset(first);
+        return lines::put_stop(out, 0, 0, number, offset);
     };
     put_opened(run, out, s, clock)
 }

@@ -1,22 +1,24 @@
--- Laws of the records: their lengths, what one that is not refused tells, and that it is read alike
--- in a longer file and in a shorter one. Assumes nothing.
+-- Laws of the records: their lengths, what one that is not refused tells, that it is read alike in
+-- a longer file and in a shorter one, and of a T that opening refuses. Assumes nothing.
 use mathlib.Core.Path.{_≡_, refl, sym, ap, _∙_}
-use mathlib.Core.Bool.{Bool, true, false, cond}
+use mathlib.Core.Bool.{Bool, true, false, cond, _||_}
 use mathlib.Core.List.{List, [], _∷_, _++_}
 use Prim.Native.Nat.{ℕ, _+_, _≤_, _<_}
 use native.Mathlib.Nat.{min-le-left, le-min}
 use native.Mathlib.Omega.{arith}
 use lib.ListN.{length, getD, take, drop, length-append, length-take, take-append-drop}
 use lib.Dec.{lit<, lit≤, ltb, leb, eqb}
-use borrow.Author.Tests.{leb-true, eqb-true, lt-ltb, le-ltb, le-leb, ne-eqb}
-use Rattle.base.specs.Refusals.{done, refusedCut, refusedKind, refusedLength}
-use Rattle.base.specs.Refusals.{firstOf}
+use borrow.Author.Tests.{ltb-true, ltb-false, leb-true, eqb-true, lt-ltb, le-ltb, le-leb}
+use borrow.Author.Tests.{lt-leb, ne-eqb}
+use Rattle.base.specs.Refusals.{done, refusedCut, refusedKind, refusedLength, refusedShort}
+use Rattle.base.specs.Refusals.{firstOf, testsIn, failsAt}
 use Rattle.base.specs.Lists.{allOf}
-use Rattle.base.proofs.Tests.{by-test, unless-passed}
+use Rattle.base.proofs.Tests.{true-false, by-test, unless-passed}
 use Rattle.wire.specs.Wire.{numberAt, total, numbersAt}
 use Rattle.wire.proofs.Laws.{number-within, numbers-within}
 use Rattle.layout.specs.Layout.{lengthOffset, kindOffset, foreLength}
 use Rattle.state.specs.declared.Settings.{Settings}
+use Rattle.state.specs.StateLimits.{lastLongest}
 use Rattle.cell.specs.declared.Event.{Event}
 use Rattle.cell.specs.declared.Event.the-variants.{AdvanceAll, AdvanceOne, Start, Deliver}
 use Rattle.cell.specs.declared.Event.the-variants.{Lose, Repeat, Restart}
@@ -25,8 +27,8 @@ use Rattle.record.specs.declared.Record.{Record}
 use Rattle.record.specs.declared.First.{First}
 use Rattle.record.specs.Record.{settingsKind, advanceAllKind, startKind, kindOf, isAllowed}
 use Rattle.record.specs.Record.{widthsOf, recordLength, leftAt, toldLengthAt, toldKindAt}
-use Rattle.record.specs.Record.{recordFault, headOf, valuesAt, recordWith, recordAt}
-use Rattle.record.specs.Record.{firstWith, firstRecord}
+use Rattle.record.specs.Record.{recordFault, faultOffset, headOf, valuesAt, recordWith}
+use Rattle.record.specs.Record.{recordAt, firstWith, firstRecord}
 
 -- ---- kinds and lengths
 
@@ -90,10 +92,11 @@ fault-passed first s at e =
     let k = toldKindAt s at in
     let p1 = unless-passed (leb foreLength (leftAt s at)) refusedCut _ refl e in
     let p2 = unless-passed (isAllowed first k) refusedKind _ refl (p1 .1) in
-    let p3 =
-    unless-passed (eqb (toldLengthAt s at) (recordLength k)) refusedLength _ refl (p2 .1) in
-    let p4 = unless-passed (leb (recordLength k) (leftAt s at)) refusedCut [] refl (p3 .1) in
-    let l = leb-true (recordLength k) (leftAt s at) (p4 .0) in
+    let told = toldLengthAt s at in
+    let p3 = unless-passed (leb (recordLength k) told) refusedShort _ refl (p2 .1) in
+    let p4 = unless-passed (leb told (recordLength k)) refusedLength _ refl (p3 .1) in
+    let p5 = unless-passed (leb (recordLength k) (leftAt s at)) refusedCut [] refl (p4 .1) in
+    let l = leb-true (recordLength k) (leftAt s at) (p5 .0) in
     record {
       told = refl;
       allowed = p2 .0;
@@ -106,14 +109,15 @@ pub head-whole : (first : Bool) (s : List ℕ) (at k n : ℕ) → headOf first s
 unfolding headOf
 head-whole first s at k n e =
     let f = recordFault first s at in
-    go f (fault-passed first s at) (eqb f done) refl e
+    go f (faultOffset first s at) (fault-passed first s at) (eqb f done) refl e
   where
-    go : (f : ℕ)
+    go : (f o : ℕ)
         → (f ≡ done → WholeAt first s at (toldKindAt s at) (at + recordLength (toldKindAt s at)))
         → (b : Bool) → eqb f done ≡ b
-        → cond b (Head.Whole (toldKindAt s at) (at + recordLength (toldKindAt s at))) (Head.Fault f)
+        → cond b (Head.Whole (toldKindAt s at) (at + recordLength (toldKindAt s at)))
+        (Head.Fault f o)
         ≡ Head.Whole k n → WholeAt first s at k n
-    go f passed true t e =
+    go f o passed true t e =
         let w = passed (eqb-true f done t) in
         let told : toldKindAt s at ≡ k = cc in
         let next : at + recordLength (toldKindAt s at) ≡ n = cc in
@@ -123,7 +127,7 @@ head-whole first s at k n e =
           there = rw told at (w .there);
           next = rw told at next;
         }
-    go f passed false t e = absurd (let z : _≡_ {A = ℕ} 0 1 = cc in omega arith)
+    go f o passed false t e = absurd (let z : _≡_ {A = ℕ} 0 1 = cc in omega arith)
 
 -- an event was given, so its record is whole
 pub event-whole : (s : List ℕ) (at : ℕ) (e : Event) (next : ℕ)
@@ -133,7 +137,7 @@ event-whole s at e next r = test (ltb at (length s)) r
   where
     go : (h : Head) → headOf false s at ≡ h → recordWith s at h ≡ Record.Event e next
         → WholeAt false s at (toldKindAt s at) next
-    go (Head.Fault f) q r = absurd (let z : _≡_ {A = ℕ} 0 1 = cc in omega arith)
+    go (Head.Fault f o) q r = absurd (let z : _≡_ {A = ℕ} 0 1 = cc in omega arith)
     go (Head.Whole k n) q r =
         let w = head-whole false s at k n q in
         let m : n ≡ next = cc in
@@ -169,7 +173,7 @@ unfolding firstRecord
 first-there s g clock r = go (headOf true s 0) refl r
   where
     go : (h : Head) → headOf true s 0 ≡ h → firstWith s h ≡ First.Given g clock → 21 ≤ length s
-    go (Head.Fault f) q r = absurd (let z : _≡_ {A = ℕ} 0 1 = cc in omega arith)
+    go (Head.Fault f o) q r = absurd (let z : _≡_ {A = ℕ} 0 1 = cc in omega arith)
     go (Head.Whole k n) q r = first-whole s k n q
 
 -- ---- settings stand first, and only there
@@ -184,6 +188,28 @@ pub settings-missing : (s : List ℕ) (at : ℕ) → foreLength ≤ leftAt s at
 unfolding recordFault firstOf allOf isAllowed
 settings-missing s at l n =
     rw (le-leb foreLength (leftAt s at) l, ne-eqb (toldKindAt s at) settingsKind n)
+
+-- ---- a length that is not the kind's
+
+pub too-short : (first : Bool) (s : List ℕ) (at : ℕ) → foreLength ≤ leftAt s at
+    → isAllowed first (toldKindAt s at) ≡ true → toldLengthAt s at < recordLength (toldKindAt s at)
+    → recordFault first s at ≡ refusedShort
+unfolding recordFault firstOf allOf
+too-short first s at l k t = rw (le-leb foreLength (leftAt s at) l, k, lt-leb _ _ t)
+
+pub too-long : (first : Bool) (s : List ℕ) (at : ℕ) → foreLength ≤ leftAt s at
+    → isAllowed first (toldKindAt s at) ≡ true → recordLength (toldKindAt s at) < toldLengthAt s at
+    → recordFault first s at ≡ refusedLength
+unfolding recordFault firstOf allOf
+too-long first s at l k t =
+    let right = recordLength (toldKindAt s at) in
+    let told = toldLengthAt s at in
+    rw (
+      le-leb foreLength (leftAt s at) l,
+      k,
+      le-leb right told (omega (arith, t)),
+      lt-leb told right t,
+    )
 
 -- ---- reading alike
 
@@ -210,26 +236,25 @@ left-within p q at n l =
     (le-leb n (leftAt (p ++ q) at) (omega arith), le-leb n (leftAt p at) (omega arith))
 
 fault-within : (first : Bool) (p q : List ℕ) (at : ℕ) → Within p at
-    → recordFault first (p ++ q) at ≡ recordFault first p at
-unfolding recordFault firstOf allOf
+    → (recordFault first (p ++ q) at ≡ recordFault first p at)
+    × (faultOffset first (p ++ q) at ≡ faultOffset first p at)
+unfolding recordFault faultOffset firstOf allOf testsIn failsAt
 fault-within first p q at w =
     let k = toldKindAt p at in
     let four = left-within p q at foreLength (w .fore) in
     let all = left-within p q at (recordLength k) (w .whole) in
     let f = w .fore in
-    rw (
-      kind-within p q at f,
-      number-within p q (at + lengthOffset) 2 (omega arith),
-      four .0,
-      four .1,
-      all .0,
-      all .1,
+    let e = number-within p q (at + lengthOffset) 2 (omega arith) in (
+      rw (kind-within p q at f, e, four .0, four .1, all .0, all .1),
+      rw (kind-within p q at f, e, four .0, four .1, all .0, all .1),
     )
 
 head-within : (first : Bool) (p q : List ℕ) (at : ℕ) → Within p at
     → headOf first (p ++ q) at ≡ headOf first p at
 unfolding headOf
-head-within first p q at w = rw (fault-within first p q at w, kind-within p q at (w .fore))
+head-within first p q at w =
+    let f = fault-within first p q at w in
+    rw (f .0, f .1, kind-within p q at (w .fore))
 
 record-within : (p q : List ℕ) (at : ℕ) → Within p at → recordAt (p ++ q) at ≡ recordAt p at
 unfolding recordAt
@@ -244,7 +269,7 @@ record-within p q at w =
     (go (headOf false p at) refl)
   where
     go : (h : Head) → headOf false p at ≡ h → recordWith (p ++ q) at h ≡ recordWith p at h
-    go (Head.Fault f) e = refl
+    go (Head.Fault f o) e = refl
     go (Head.Whole k n) e = rw (values-within p q at k (head-whole false p at k n e .there))
 
 first-within : (p q : List ℕ) → 21 ≤ length p → firstRecord (p ++ q) ≡ firstRecord p
@@ -255,7 +280,7 @@ first-within p q l =
     rw (head-within true p q 0 w) (go (headOf true p 0))
   where
     go : (h : Head) → firstWith (p ++ q) h ≡ firstWith p h
-    go (Head.Fault f) = refl
+    go (Head.Fault f o) = refl
     go (Head.Whole k n) =
         rw (values-within p q 0 settingsKind (omega (arith, l, length-most settingsKind)))
 
@@ -304,3 +329,29 @@ first-shorter s g clock p r m =
     let a = take p s in
     let l : 21 ≤ length a = length-cut s 21 p (first-there s g clock r) m in
     sym (first-within a (drop p s) l) ∙ ap firstRecord (take-append-drop p s) ∙ r
+
+-- ---- settings that opening refuses
+
+-- T is below 1 or above its limit, or it is neither
+pub longest-refused : (t x y : ℕ) → (ltb t 1 || ltb lastLongest t) ≡ true
+    → cond (leb 1 t) (cond (leb t lastLongest) x y) y ≡ y
+longest-refused t x y e = go (ltb t 1) refl e
+  where
+    go : (b : Bool) → ltb t 1 ≡ b → (b || ltb lastLongest t) ≡ true
+        → cond (leb 1 t) (cond (leb t lastLongest) x y) y ≡ y
+    go true p q = rw (lt-leb 1 t (ltb-true t 1 p))
+    go false p q =
+        rw (
+          le-leb 1 t (ltb-false t 1 p),
+          lt-leb t lastLongest (ltb-true lastLongest t q),
+        )
+
+pub longest-fits : (t : ℕ) → (ltb t 1 || ltb lastLongest t) ≡ false
+    → (leb 1 t ≡ true) × (leb t lastLongest ≡ true)
+longest-fits t e = go (ltb t 1) refl e
+  where
+    go : (b : Bool) → ltb t 1 ≡ b → (b || ltb lastLongest t) ≡ false
+        → (leb 1 t ≡ true) × (leb t lastLongest ≡ true)
+    go true p q = true-false q
+    go false p q =
+        (le-leb 1 t (ltb-false t 1 p), le-leb t lastLongest (ltb-false lastLongest t q))

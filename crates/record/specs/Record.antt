@@ -1,18 +1,23 @@
--- The records of a run file: their kinds and lengths, what is refused in one, and what it says. A
--- record begins as a frame does, with its length and its kind. Assumes nothing.
+-- The records of a run file: their kinds and lengths, what is refused in one and where, and what it
+-- says. A record begins as a frame does, with its length and its kind. Assumes nothing.
 use Prim.Native.Nat.{ℕ, _+_, _-_}
 use mathlib.Core.Bool.{Bool, true, false, cond, _&&_}
-use mathlib.Core.List.{List, [], _∷_}
-use lib.ListN.{length, getD}
+use mathlib.Core.List.{List, [], _∷_, _++_}
+use lib.ListN.{length, getD, take}
 use lib.Dec.{ltb, leb, eqb}
-use Rattle.base.specs.Refusals.{done, test, Refusal, refusal, answerBy}
-use Rattle.base.specs.Refusals.{refusedCut, refusedKind, refusedLength}
+use Rattle.base.specs.Refusals.{done, test, Refusal, refusal, answerBy, placeBy}
+use Rattle.base.specs.Refusals.{refusedCut, refusedKind}
 use Rattle.wire.specs.Wire.{numberAt, total, numbersAt}
 use Rattle.message.specs.Faults.{Field, lentBytes, frameLength, kindNumber}
-use Rattle.layout.specs.Layout.{widthOf, lengthOffset, kindOffset, foreLength}
+use Rattle.layout.specs.Layout.{widthOf, placeIn, lengthOffset, kindOffset, foreLength}
+use Rattle.layout.specs.Layout.{lengthRefusals}
+use Rattle.state.specs.declared.Settings.{Settings}
+use Rattle.state.specs.StateLimits.{OpeningField, hostCount, longestLease, clockSpread}
+use Rattle.state.specs.StateLimits.{openingClock}
 use Rattle.cell.specs.declared.Event.{Event}
 use Rattle.cell.specs.declared.Event.the-variants.{AdvanceAll, AdvanceOne, Start, Deliver}
 use Rattle.cell.specs.declared.Event.the-variants.{Lose, Repeat, Restart}
+use Rattle.cell.specs.Events.{openingRefusals}
 use Rattle.record.specs.declared.Head.{Head}
 use Rattle.record.specs.declared.Record.{Record}
 use Rattle.record.specs.declared.First.{First}
@@ -69,6 +74,10 @@ widthsOf k =
 unfoldable pub recordLength : ℕ → ℕ
 recordLength k = foreLength + total (widthsOf k)
 
+-- where field i of a kind's records stands, from 0 after the first two
+unfoldable pub fieldOffset : ℕ → ℕ → ℕ
+fieldOffset k i = foreLength + total (take i (widthsOf k))
+
 -- ---- what is refused in the record at an offset
 
 -- how many bytes there are from there on
@@ -82,25 +91,31 @@ toldLengthAt s at = numberAt s (at + lengthOffset) (widthOf frameLength)
 abbrev pub toldKindAt : List ℕ → ℕ → ℕ
 toldKindAt s at = numberAt s (at + kindOffset) (widthOf kindNumber)
 
--- 'record faults are 2, 3, 4 in reading's order': 2 (under 4 bytes), 3, 4, 2
+-- 'record faults are 2, 3, 4 in reading's order', with 17 in 4's place: 2 (under 4 bytes), 3, 17 or
+-- 4, 2
 abbrev pub recordRefusals : Bool → List ℕ → ℕ → List (Refusal Field)
 recordRefusals first s at =
     let kind = toldKindAt s at in
     refusal refusedCut (test lentBytes (leb foreLength (leftAt s at)) ∷ [])
     ∷ refusal refusedKind (test kindNumber (isAllowed first kind) ∷ [])
-    ∷ refusal refusedLength (test frameLength (eqb (toldLengthAt s at) (recordLength kind)) ∷ [])
-    ∷ refusal refusedCut (test lentBytes (leb (recordLength kind) (leftAt s at)) ∷ [])
-    ∷ []
+    ∷ (lengthRefusals (toldLengthAt s at) (recordLength kind)
+    ++ (refusal refusedCut (test lentBytes (leb (recordLength kind) (leftAt s at)) ∷ []) ∷ []))
 
 unfoldable pub recordFault : Bool → List ℕ → ℕ → ℕ
 recordFault first s at = answerBy (recordRefusals first s at)
+
+-- the offset of the first field that gives this number, 'counted from its record's start'
+unfoldable pub faultOffset : Bool → List ℕ → ℕ → ℕ
+faultOffset first s at =
+    placeBy (placeIn (leftAt s at) (toldKindAt s at)) (recordRefusals first s at)
 
 -- its kind and the offset past it, or its fault
 unfoldable pub headOf : Bool → List ℕ → ℕ → Head
 headOf first s at =
     let f = recordFault first s at in
     let kind = toldKindAt s at in
-    cond (eqb f done) (Head.Whole kind (at + recordLength kind)) (Head.Fault f)
+    cond (eqb f done) (Head.Whole kind (at + recordLength kind))
+    (Head.Fault f (faultOffset first s at))
 
 -- ---- what a record says
 
@@ -121,7 +136,7 @@ eventWith k vs =
     (cond (eqb k repeatKind) (Repeat one) (Restart one))))))
 
 abbrev pub recordWith : List ℕ → ℕ → Head → Record
-recordWith s at (Head.Fault f) = Record.Fault f
+recordWith s at (Head.Fault f o) = Record.Fault f o
 recordWith s at (Head.Whole kind next) = Record.Event (eventWith kind (valuesAt s at kind)) next
 
 -- what stands at an offset after the settings: the file's end, a fault, or an event
@@ -130,7 +145,7 @@ recordAt s at = cond (ltb at (length s)) (recordWith s at (headOf false s at)) R
 
 -- the settings and the opening clock whose fields have these numbers
 abbrev pub firstWith : List ℕ → Head → First
-firstWith s (Head.Fault f) = First.Fault f
+firstWith s (Head.Fault f o) = First.Fault f o
 firstWith s (Head.Whole kind next) =
     let vs = valuesAt s 0 settingsKind in
     First.Given (record {
@@ -142,3 +157,16 @@ firstWith s (Head.Whole kind next) =
 -- the first record
 unfoldable pub firstRecord : List ℕ → First
 firstRecord s = firstWith s (headOf true s 0)
+
+-- ---- settings that opening refuses
+
+-- where the settings record has what opening is handed
+abbrev pub openingPlace : OpeningField → ℕ
+openingPlace hostCount = fieldOffset settingsKind 0
+openingPlace longestLease = fieldOffset settingsKind 1
+openingPlace clockSpread = fieldOffset settingsKind 2
+openingPlace openingClock = fieldOffset settingsKind 3
+
+-- the offset in it of the first field that opening refuses
+unfoldable pub openingOffset : Settings → ℕ → ℕ
+openingOffset g clock = placeBy openingPlace (openingRefusals g clock)

@@ -1,34 +1,39 @@
-// The records of a run file: what stands at an offset of it.
+// The records of a run file: what stands at an offset of it, and where opening refuses the first.
 ghost use mathlib.Core.Path.{_≡_};
 ghost use Prim.Native.Nat.{_+_, _≤_};
 ghost use lib.ListN.{length};
 ghost use Rattle.record.specs.Record.{kindOf, isAllowed, recordLength, headOf};
 ghost use Rattle.record.specs.Record.{valuesAt, eventWith, recordAt, firstRecord};
-ghost use Rattle.record.specs.Parts.{headFault, faultFirst};
+ghost use Rattle.record.specs.Record.{openingOffset};
+ghost use Rattle.record.specs.Parts.{headFault, headOffset, firstFault, firstOffset};
 use base::DONE;
 use base::REFUSED_CUT;
 use base::REFUSED_KIND;
 use base::REFUSED_LENGTH;
+use base::REFUSED_SHORT;
 use cell::Event;
+use message::LAST_TICK;
+use state::LAST_LONGEST;
 use state::Settings;
 
-// The first two fields of a record, found right: its kind and the offset past it; or the fault's
-// number.
+// A fault is given by its number and by its offset, counted from the record's start.
+
+// The first two fields of a record, found right: its kind and the offset past it; or the fault.
 pub enum Head {
-    Fault(u8),
+    Fault(u8, usize),
     Whole(u16, usize),
 }
 
-// The file's end; the fault's number; or an event and the offset of the next record.
+// The file's end; the fault; or an event and the offset of the next record.
 pub enum Record {
     End,
-    Fault(u8),
+    Fault(u8, usize),
     Event(Event, usize),
 }
 
-// What the first record says, settings and opening clock; or the fault's number.
+// What the first record says, settings and opening clock; or the fault.
 pub enum First {
-    Fault(u8),
+    Fault(u8, usize),
     Given(Settings, u64),
 }
 
@@ -112,39 +117,52 @@ fn record_length(kind: u16) -> usize
     }
 }
 
-// The faults in the order 2 (under 4 bytes), 3, 4, 2.
+// The faults in the order 2 (under 4 bytes), 3, 17 or 4, 2.
 fn head_at(run: &[u8], at: usize, first: bool) -> Head
     ensures { λ r. ⌜ r ≡ headOf first (now (run .entry)) at ⌝ }
 {
     if run.len() < at {
-        return Head::Fault(REFUSED_CUT);
+        return Head::Fault(REFUSED_CUT, 0);
     }
     let left = run.len() - at;
     if left < layout::FORE_LENGTH {
-        return Head::Fault(REFUSED_CUT);
+        return Head::Fault(REFUSED_CUT, left);
     }
     let kind = wire::get(run, at + layout::KIND_AT, 2) as u16;
     if !is_allowed(first, kind) {
-        return Head::Fault(REFUSED_KIND);
+        return Head::Fault(REFUSED_KIND, layout::KIND_AT);
     }
     let len = record_length(kind);
     let told = wire::get(run, at + layout::LENGTH_AT, 2);
-    if told != len as u64 {
-        return Head::Fault(REFUSED_LENGTH);
+    if told < len as u64 {
+        return Head::Fault(REFUSED_SHORT, layout::LENGTH_AT);
+    }
+    if (len as u64) < told {
+        return Head::Fault(REFUSED_LENGTH, layout::LENGTH_AT);
     }
     if left < len {
-        return Head::Fault(REFUSED_CUT);
+        return Head::Fault(REFUSED_CUT, left);
     }
     Head::Whole(kind, at + len)
 }
 
-// The fault that a head is, or 0.
+// The number of the fault that a head is, or 0.
 fn head_fault(h: Head) -> u8
     ensures { λ r. ⌜ r ≡ headFault h ⌝ }
 {
     match h {
-        Head::Fault(f) => f,
+        Head::Fault(number, _) => number,
         Head::Whole(_, _) => DONE,
+    }
+}
+
+// The offset of the fault that a head is, or 0.
+fn head_offset(h: Head) -> usize
+    ensures { λ r. ⌜ r ≡ headOffset h ⌝ }
+{
+    match h {
+        Head::Fault(_, offset) => offset,
+        Head::Whole(_, _) => 0,
     }
 }
 
@@ -179,7 +197,7 @@ pub fn record_at(run: &[u8], at: usize) -> Record
     }
     let head = head_at(run, at, false);
     let Head::Whole(kind, next) = head else {
-        return Record::Fault(head_fault(head));
+        return Record::Fault(head_fault(head), head_offset(head));
     };
     Record::Event(event_at(run, at, kind), next)
 }
@@ -190,7 +208,7 @@ pub fn first_record(run: &[u8]) -> First
 {
     let head = head_at(run, 0, true);
     let Head::Whole(_, _) = head else {
-        return First::Fault(head_fault(head));
+        return First::Fault(head_fault(head), head_offset(head));
     };
     let n = wire::byte(run, N_AT);
     let longest = wire::get(run, LONGEST_AT, 4) as u32;
@@ -199,12 +217,42 @@ pub fn first_record(run: &[u8]) -> First
     First::Given(Settings { n, longest, spread }, clock)
 }
 
-// The fault that a first record is, or 0.
+// The number of the fault that a first record is, or 0.
 pub fn first_fault(f: First) -> u8
-    ensures { λ r. ⌜ r ≡ faultFirst f ⌝ }
+    ensures { λ r. ⌜ r ≡ firstFault f ⌝ }
 {
     match f {
-        First::Fault(number) => number,
+        First::Fault(number, _) => number,
         First::Given(_, _) => DONE,
     }
+}
+
+// The offset of the fault that a first record is, or 0.
+pub fn first_offset(f: First) -> usize
+    ensures { λ r. ⌜ r ≡ firstOffset f ⌝ }
+{
+    match f {
+        First::Fault(_, offset) => offset,
+        First::Given(_, _) => 0,
+    }
+}
+
+// The offset in the first record of what opening refuses, in opening's order; 0 where it refuses
+// nothing.
+pub fn opening_offset(s: Settings, clock: u64) -> usize
+    ensures { λ r. ⌜ r ≡ openingOffset s clock ⌝ }
+{
+    if !quorum::cell_fits(s.n) {
+        return N_AT;
+    }
+    if (s.longest < 1) | (LAST_LONGEST < s.longest) {
+        return LONGEST_AT;
+    }
+    if s.longest <= s.spread {
+        return SPREAD_AT;
+    }
+    if LAST_TICK < clock {
+        return CLOCK_AT;
+    }
+    0
 }

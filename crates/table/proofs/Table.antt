@@ -2,15 +2,15 @@
 -- each entry is what the definitions compute. Assumes nothing.
 use mathlib.Core.Path.{refl}
 use lib.Count.{ones, onesIn}
-use Rattle.base.specs.Refusals.{firstOf}
+use Rattle.base.specs.Refusals.{firstOf, testsIn, failsAt}
 use Rattle.base.specs.Lists.{every, allOf}
 use Rattle.wire.specs.Wire.{le, numberAt, total, numbersAt, packed}
 use Rattle.quorum.specs.Sets.{isMajority, membersFrom}
 use Rattle.message.specs.Message.{lastTick, lastEnd, isAbove, knownKind, isResponse, numbersOf}
 use Rattle.message.specs.Message.{messageOf, addressedTo}
 use Rattle.message.specs.Faults.{partyFits, faultOf, partyFitsTo, faultTo}
-use Rattle.layout.specs.Layout.{moreOf, kindLength, bytesOf, valueIn, numbersIn}
-use Rattle.frame.specs.Reading.{readAnswer, readOf}
+use Rattle.layout.specs.Layout.{moreOf, kindLength, offsetIn, bytesOf, valueIn, numbersIn}
+use Rattle.frame.specs.Reading.{readAnswer, readOffset, readOf}
 use Rattle.frame.specs.Writing.{frameOf, writeAnswer, framesIn, framesOf, answerTo}
 use Rattle.frame_c.specs.Interface.{handedNumbers, handedAnswer, handedAnswerTo}
 use Rattle.rules.specs.Rules.{waitEnd, acceptedAt, namedAt, isFresh, mayPromise, hasEnded, higherOf}
@@ -45,7 +45,8 @@ computed : Table × NotEmpty × RefusalOrders
 unfolding frameOf writeAnswer framesIn framesOf answerTo handedNumbers handedAnswer handedAnswerTo
     ones onesIn firstOf le numberAt total numbersAt packed isMajority membersFrom lastTick lastEnd
     isAbove knownKind isResponse numbersOf messageOf addressedTo partyFits faultOf partyFitsTo
-    faultTo moreOf kindLength bytesOf valueIn numbersIn readAnswer readOf waitEnd acceptedAt namedAt
+    faultTo moreOf kindLength offsetIn bytesOf valueIn numbersIn testsIn failsAt readAnswer
+    readOffset readOf waitEnd acceptedAt namedAt
     isFresh mayPromise hasEnded higherOf actsOn valueToPropose isForbidden mayAccept afterAccept
     namedBy lastLongest settingsOk durationOk ballotOk leaseOk acceptedOk promisedOk lastOk namedOk
     askingOk proposingOk roundOk stateOk agedAt lastWait hostOk advanceRefusal advancedHost
@@ -83,6 +84,8 @@ computed = (
   },
   record {
     reading = refl;
+    reading-short = refl;
+    reading-at = (refl, refl);
     writing = refl;
     writing-to = refl;
     handed = refl;

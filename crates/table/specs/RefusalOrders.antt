@@ -2,7 +2,8 @@
 -- says, and by the number after it too; the next entry has the first of the two mended. So the
 -- answers are document 01's order, and no two neighbours in it could be exchanged. (Two pairs can
 -- never apply together, and show only that both are there: a place at n or above never waits, and
--- an empty slot sends nothing.) Assumes nothing.
+-- an empty slot sends nothing. 4 and 17 exclude each other, and stand in one place.) Assumes
+-- nothing.
 use Prim.Native.Nat.{ℕ, _+_, _^_}
 use mathlib.Core.Path.{_≡_}
 use mathlib.Core.Bool.{cond}
@@ -11,7 +12,7 @@ use Rattle.message.specs.declared.Message.{Message}
 use Rattle.message.specs.declared.Message.the-variants.{PrepareRequest}
 use Rattle.message.specs.Message.{headWith}
 use Rattle.message.specs.Faults.{sizes}
-use Rattle.frame.specs.Reading.{readAnswer}
+use Rattle.frame.specs.Reading.{readAnswer, readOffset}
 use Rattle.frame.specs.Writing.{writeAnswer, answerTo}
 use Rattle.frame_c.specs.Interface.{handedNumbers, handedAnswer, handedAnswerTo}
 use Rattle.state.specs.declared.Settings.{Settings}
@@ -45,6 +46,19 @@ rest sender high host = sender ∷ 2 ∷ 105 ∷ 0 ∷ 0 ∷ 0 ∷ 0 ∷ 0 ∷ h
 
 abbrev pub whole : List ℕ → List ℕ
 whole bytes = 15 ∷ 0 ∷ 1 ∷ 0 ∷ bytes
+
+-- lent bytes, each of them refused by a number and by the next; the second and the third have this
+-- length field
+abbrev pub lent : ℕ → List (List ℕ)
+lent length =
+    (15 ∷ 0 ∷ 9 ∷ [])
+    ∷ (length ∷ 0 ∷ 9 ∷ 0 ∷ [])
+    ∷ (length ∷ 0 ∷ 1 ∷ 0 ∷ [])
+    ∷ (15 ∷ 0 ∷ 1 ∷ 0 ∷ 3 ∷ [])
+    ∷ whole (rest 3 1 1)
+    ∷ whole (rest 0 1 1)
+    ∷ whole (rest 0 0 1)
+    ∷ []
 
 -- ---- settings, hosts and cells
 
@@ -89,15 +103,15 @@ started = hostAt oneReply 0
 -- ---- the orders
 
 pub record RefusalOrders : Type 0 where
-  pub reading : readAnswer (sizes 10) []
-      ∷ readAnswer (sizes 3) (15 ∷ 0 ∷ 9 ∷ [])
-      ∷ readAnswer (sizes 3) (16 ∷ 0 ∷ 9 ∷ 0 ∷ [])
-      ∷ readAnswer (sizes 3) (16 ∷ 0 ∷ 1 ∷ 0 ∷ [])
-      ∷ readAnswer (sizes 3) (15 ∷ 0 ∷ 1 ∷ 0 ∷ 3 ∷ [])
-      ∷ readAnswer (sizes 3) (whole (rest 3 1 1))
-      ∷ readAnswer (sizes 3) (whole (rest 0 1 1))
-      ∷ readAnswer (sizes 3) (whole (rest 0 0 1))
-      ∷ [] ≡ 1 ∷ 2 ∷ 3 ∷ 4 ∷ 2 ∷ 5 ∷ 6 ∷ 7 ∷ []
+  -- with a length field that is too long, and with one that is too short
+  pub reading : readAnswer (sizes 10) [] ∷ map (readAnswer (sizes 3)) (lent 16)
+      ≡ 1 ∷ 2 ∷ 3 ∷ 4 ∷ 2 ∷ 5 ∷ 6 ∷ 7 ∷ []
+  pub reading-short : readAnswer (sizes 10) [] ∷ map (readAnswer (sizes 3)) (lent 14)
+      ≡ 1 ∷ 2 ∷ 3 ∷ 17 ∷ 2 ∷ 5 ∷ 6 ∷ 7 ∷ []
+  -- where each of them is found, either way
+  pub reading-at : (readOffset (sizes 10) [] ∷ map (readOffset (sizes 3)) (lent 16)
+      ≡ 0 ∷ 3 ∷ 2 ∷ 0 ∷ 5 ∷ 4 ∷ 6 ∷ 4 ∷ [])
+      × (map (readOffset (sizes 3)) (lent 14) ≡ map (readOffset (sizes 3)) (lent 16))
   pub writing : writeAnswer (sizes 0) (request 3 pastTick 1) 0
       ∷ writeAnswer (sizes 3) (request 3 pastTick 1) 0
       ∷ writeAnswer (sizes 3) (request 0 pastTick 1) 0

@@ -4,17 +4,17 @@ use mathlib.Core.Path.{_≡_, sym, ap, _∙_}
 use mathlib.Core.Bool.{true, false}
 use native.Mathlib.Omega.{arith}
 use lib.ListN.{length}
-use lib.Dec.{leb, eqb}
-use borrow.Author.Tests.{eq-eqb, ne-eqb, le-leb, lt-leb, not-true, not-false}
-use Rattle.base.specs.Refusals.{firstOf}
+use lib.Dec.{leb}
+use borrow.Author.Tests.{le-leb, lt-leb, not-true, not-false}
+use Rattle.base.specs.Refusals.{firstOf, testsIn, failsAt}
 use Rattle.base.specs.Lists.{allOf}
 use Rattle.base.proofs.Tests.{told}
 use Rattle.message.specs.Message.{knownKind}
-use Rattle.message.specs.Faults.{sizesFit, faultOf}
-use Rattle.layout.specs.Layout.{kindLength, numbersIn}
-use Rattle.frame.specs.Reading.{toldLength, toldKind, readAnswer}
+use Rattle.message.specs.Faults.{sizesFit}
+use Rattle.layout.specs.Layout.{kindLength, offsetIn}
+use Rattle.frame.specs.Reading.{toldLength, toldKind, readAnswer, readOffset}
 use Rattle.frame.specs.Parts.{foundOf}
-use Rattle.frame.proofs.Answers.{read-whole}
+use Rattle.frame.proofs.Answers.{Tested, read-whole, offset-whole}
 use borrow.Author.Needs.{needs}
 use Rattle.frame.proofs.find.Statement.{statement}
 use Rattle.frame.proofs.find.Tie as tie
@@ -55,32 +55,49 @@ long c =
     let k = c .before .before .before .get in
     sym (c .kind-length .ensures ∙ ap kindLength (k .ensures .0))
 
--- the told length is that one, or is not
-apart : (c : tie.Then4) →
-    let a = start (else1 (else2 (else3 (c .before)))) .args in
-    eqb (toldLength (a .s .now)) (c .before .before .kind-length .result) ≡ false
-apart c = rw (← c .before .get2 .ensures .0) (ne-eqb _ _ (c .if4 .taken))
+-- the told length is below that one, or above it, or it is that one
+below : (c : tie.Then5) →
+    let a = start (else1 (else2 (else3 (c .before .before)))) .args in
+    leb (c .before .before .before .kind-length .result) (toldLength (a .s .now)) ≡ false
+below c = rw (← c .before .before .get2 .ensures .0) (lt-leb _ _ (c .if5 .taken))
+
+from : (c : tie.Else5) →
+    let a = start (else1 (else2 (else3 (c .before .before)))) .args in
+    leb (c .before .before .before .kind-length .result) (toldLength (a .s .now)) ≡ true
+from c = rw (← c .before .before .get2 .ensures .0) (le-leb _ _ (c .if5 .left))
+
+above : (c : tie.Else5) →
+    let a = start (else1 (else2 (else3 (c .before .before)))) .args in
+    leb (toldLength (a .s .now)) (c .before .before .before .kind-length .result) ≡ false
+above c =
+    let told = c .before .before .get2 .result in
+    let len = c .before .before .before .kind-length .result in
+    rw (← c .before .before .get2 .ensures .0)
+    (lt-leb told len (omega (arith, c .if5 .left, c .before .if4 .taken)))
 
 same : (c : tie.Else4) →
     let a = start (else1 (else2 (else3 (c .before)))) .args in
-    eqb (toldLength (a .s .now)) (c .before .before .kind-length .result) ≡ true
-same c = rw (← c .before .get2 .ensures .0) (eq-eqb _ _ (c .if4 .left))
+    toldLength (a .s .now) ≡ c .before .before .kind-length .result
+same c = rw (← c .before .get2 .ensures .0) (c .if4 .left)
 
--- where all are passed, what is left is what the message's numbers refuse
-whole : (c : tie.Else5) →
+-- where all are passed, the frame is whole
+whole : (c : tie.Else6) →
     let measured = c .before .before .before in
-    let kind-read = measured .before .before .before in
-    let a = kind-read .before .before .before .before .before .args in
-    readAnswer (a .z) (a .s .now) ≡ faultOf (a .z) (numbersIn (a .s .now) (toldKind (a .s .now)))
+    let a = start (else1 (else2 (measured .before))) .args in
+    Tested (a .z) (a .s .now)
 whole c =
     let k = c .before .before .before in
     let d = k .before in
-    read-whole _ _ (fits (else1 (else2 d))) (four (else2 d)) (known d)
-    (rw (long k) (same (c .before)))
-    (rw (long k) (le-leb _ _ (c .if5 .left)))
+    record {
+      cell = fits (else1 (else2 d));
+      fore = four (else2 d);
+      kind = known d;
+      told = rw (long k) (same (c .before));
+      room = rw (long k) (le-leb _ _ (c .if6 .left));
+    }
 
 pub find-spec : {M : Type 1} → statement M
-unfolding foundOf readAnswer firstOf allOf
+unfolding foundOf readAnswer readOffset firstOf allOf testsIn failsAt offsetIn
 find-spec =
     tie.close
     (tie.spec
@@ -105,27 +122,37 @@ find-spec =
     (λ c κs. search needs)
     (λ c κs. search needs)
     (λ c.
-    let k = c .before .before in
+    let k = c .before .before .before in
     let d = k .before in
-    rw (fits (else1 (else2 d)), four (else2 d), known d, long k, apart c))
+    rw (fits (else1 (else2 d)), four (else2 d), known d, long k, below c))
     (λ c.
     let k = c .before .before .before in
     let d = k .before in
+    rw (fits (else1 (else2 d)), four (else2 d), known d, long k, from c, above c))
+    (λ c.
+    let left = c .before in
+    let k = left .before .before in
+    let d = k .before in
+    let len = k .kind-length .result in
     rw (
       fits (else1 (else2 d)),
       four (else2 d),
       known d,
       long k,
-      same (c .before),
-      lt-leb _ _ (c .if5 .taken),
+      same left,
+      le-leb len len (omega arith),
+      lt-leb _ _ (c .if6 .taken),
     ))
-    (λ c κs. rw (← c .before .before .before .kind-length .ensures) (omega (arith, c .if5 .left)))
+    (λ c κs.
+    let k = c .before .before .before in
+    rw (← k .kind-length .ensures) (omega (arith, c .if6 .left)))
     (λ c κs. search needs)
     (λ c.
     let d = c .before .before in
     let k = d .before .before .before in
     rw (
-      whole d,
+      read-whole _ _ (whole d),
+      offset-whole _ _ (whole d),
       c .read-numbers .ensures,
       c .before .numbers-at .ensures,
       k .before .before .before .get .ensures .0,

@@ -1,5 +1,5 @@
--- `put_stop` puts the word, the offset and the number one behind the other. They take 30 bytes at
--- most: 4, 21 and 5.
+-- `put_stop` puts the word, the place, the number and the offset one behind the other. They take 51
+-- bytes at most: 4, 21, 4 and 22.
 use Prim.Native.Nat.{_≤_}
 use native.Mathlib.Omega.{arith}
 use lib.ListN.{length}
@@ -7,7 +7,7 @@ use borrow.Author.Needs.{needs}
 use Rattle.text.specs.Text.{decimal}
 use Rattle.text.proofs.Laws.{put-then}
 use Rattle.lines.specs.Lines.{lastOf, lineText}
-use Rattle.lines.proofs.Laws.{most-64, last-8}
+use Rattle.lines.proofs.Laws.{most-8, most-64, last-64}
 use Rattle.lines.proofs.put_stop.Statement.{statement}
 use Rattle.lines.proofs.put_stop.Tie as tie
 
@@ -18,15 +18,19 @@ start c = c .before .before .before .before
 abbrev word : tie.After-put-spaced-arg → tie.After-put-word
 word c = c .before .before .before
 
-abbrev offset : tie.After-put-last-arg → tie.After-put-spaced
-offset c = c .before .before .before
+abbrev place : tie.After-put-spaced-arg2 → tie.After-put-spaced
+place c = c .before .before .before
+
+abbrev number : tie.After-put-last-arg → tie.After-put-spaced2
+number c = c .before .before .before
 
 long : (c : tie.After-put-word) →
     let a = start c .args in
-    (length (decimal (a .offset)) ≤ 20) × (length (lastOf (a .number)) ≤ 5)
+    (length (decimal (a .place)) ≤ 20)
+    × ((length (decimal (a .number)) ≤ 3) × (length (lastOf (a .offset)) ≤ 22))
 long c =
     let f = start c .fits in
-    (most-64 _ (f .offset .fits), last-8 _ (f .number .fits))
+    (most-64 _ (f .place .fits), (most-8 _ (f .number .fits), last-64 _ (f .offset .fits)))
 
 pub put-stop-spec : {M : Type 1} → statement M
 unfolding lineText
@@ -39,15 +43,22 @@ put-stop-spec =
     let l = long (word c) in
     omega arith)
     (λ c κs.
-    let l = long (word (offset c .before)) in
+    let l = long (word (place c .before)) in
+    omega arith)
+    (λ c κs.
+    let l = long (word (place (number c .before) .before)) in
     omega arith)
     (λ c. search needs)
     (λ c.
     let last = c .before .before in
-    let o = offset (last .before) in
-    let w = word (o .before) in
+    let n = number (last .before) in
+    let at = place (n .before) in
+    let w = word (at .before) in
     let l = long w in
     let p = w .put-word .ensures in
-    let q = o .put-spaced .ensures in
-    let r = last .put-last .ensures in
-    (put-then p (put-then q r), omega (arith, p .past, q .past, r .past))))
+    let q = at .put-spaced .ensures in
+    let r = n .put-spaced2 .ensures in
+    let z = last .put-last .ensures in (
+      put-then p (put-then q (put-then r z)),
+      omega (arith, p .past, q .past, r .past, z .past),
+    )))

@@ -15,5 +15,5 @@ put-end-spec =
     (λ c κs. search needs) (λ c κs. search needs) (λ c. search needs)
     (λ c.
     let s = c .before .before .before .before .before .before in
-    rw (s .before .before .before .r .given .1, last-fault _ _ _ _)
+    rw (s .before .before .before .r .given .1, last-fault _ _ _ _ _)
     (put-then (s .put-stop .ensures .0) (c .before .before .put-counts2 .ensures))))

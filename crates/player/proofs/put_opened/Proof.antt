@@ -24,10 +24,15 @@ put-script-requires c κs =
 pub put-opened-spec : {M : Type 1} → statement M
 put-opened-spec =
     tie.close
-    (tie.spec (λ c κs. search needs) (λ c κs. search needs) (λ c. search needs)
+    (tie.spec (λ c κs. search needs) (λ c κs. search needs) (λ c κs. search needs)
+    (λ c. search needs)
     (λ c.
-    let i = c .before .before .before .before in
-    rw (opened-refused _ _ _ _ (i .before .«open» .ensures) (i .if1 .taken))
+    let o = c .before .before .before in
+    let i = o .before .before in
+    rw (
+      opened-refused _ _ _ _ (i .before .«open» .ensures) (i .if1 .taken),
+      ← o .opening-offset .ensures,
+    )
     (c .before .before .put-stop .ensures .0))
     (λ c κs. search needs) put-script-requires (λ c. search needs)
     (λ c.

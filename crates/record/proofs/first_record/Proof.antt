@@ -28,9 +28,16 @@ first-record-spec =
     (λ c. search needs)
     (λ c. search needs)
     (λ c κs. search needs)
+    (λ c κs. search needs)
     (λ c.
-    let h = c .before .before .before in
-    rw (c .head-fault .ensures, ← h .head-at .ensures, c .before .enum-told2 .given .1))
+    let f = c .before in
+    let h = f .before .before .before in
+    rw (
+      f .head-fault .ensures,
+      c .head-offset .ensures,
+      ← h .head-at .ensures,
+      f .before .enum-told2 .given .1,
+    ))
     (λ c κs. omega (arith, there c))
     (λ c κs. let l = there (c .before) in (omega arith, omega arith))
     (λ c. search needs)

@@ -1,17 +1,18 @@
 -- `head_at` is `headOf`: each refusal in its order, and the head where all are passed.
 use mathlib.Core.Path.{_≡_, sym, ap, _∙_}
-use mathlib.Core.Bool.{true, false}
+use mathlib.Core.Bool.{true}
 use Prim.Native.Nat.{_+_, _-_}
 use native.Mathlib.Omega.{arith}
 use lib.ListN.{length}
-use lib.Dec.{leb, eqb}
-use borrow.Author.Tests.{eq-eqb, ne-eqb, le-leb, lt-leb, not-true, not-false}
-use Rattle.base.specs.Refusals.{firstOf}
+use lib.Dec.{leb}
+use borrow.Author.Tests.{le-leb, lt-leb, not-true, not-false}
+use Rattle.base.specs.Refusals.{firstOf, testsIn, failsAt}
 use Rattle.base.specs.Lists.{allOf}
 use Rattle.base.proofs.Tests.{told}
+use Rattle.layout.specs.Layout.{offsetIn}
 use Rattle.record.specs.declared.Head.{Head}
 use Rattle.record.specs.Record.{isAllowed, recordLength, leftAt, toldLengthAt, toldKindAt}
-use Rattle.record.specs.Record.{recordFault, headOf}
+use Rattle.record.specs.Record.{recordFault, faultOffset, headOf}
 use borrow.Author.Needs.{needs}
 use Rattle.record.proofs.head_at.Statement.{statement}
 use Rattle.record.proofs.head_at.Tie as tie
@@ -46,44 +47,46 @@ long c =
     let k = c .before .before .before .get in
     sym (c .record-length .ensures ∙ ap recordLength (k .ensures .0))
 
--- the told length is that one, or is not
-apart : (c : tie.Then4) →
+-- the told length is not below that one, and not above it
+not-short : (c : tie.Else4) →
     let a = start (else2 (else3 (c .before))) .args in
-    eqb (toldLengthAt (a .run .now) (a .at)) (c .before .before .record-length .result) ≡ false
-apart c = rw (← c .before .get2 .ensures .0) (ne-eqb _ _ (c .if4 .taken))
+    leb (c .before .before .record-length .result) (toldLengthAt (a .run .now) (a .at)) ≡ true
+not-short c = rw (← c .before .get2 .ensures .0) (le-leb _ _ (c .if4 .left))
 
-same : (c : tie.Else4) →
-    let a = start (else2 (else3 (c .before))) .args in
-    eqb (toldLengthAt (a .run .now) (a .at)) (c .before .before .record-length .result) ≡ true
-same c = rw (← c .before .get2 .ensures .0) (eq-eqb _ _ (c .if4 .left))
+not-long : (c : tie.Else5) →
+    let d = c .before in
+    let a = start (else2 (else3 (d .before))) .args in
+    leb (toldLengthAt (a .run .now) (a .at)) (d .before .before .record-length .result) ≡ true
+not-long c = rw (← c .before .before .get2 .ensures .0) (le-leb _ _ (c .if5 .left))
 
 -- where all are passed: the kind that was read, and the offset past its length
-past : (c : tie.Else5) →
-    let k = c .before .before .before in
+past : (c : tie.Else6) →
+    let k = c .before .before .before .before in
     let d = k .before in
     let a = start (else2 d) .args in
     Head.Whole (d .before .before .get .result) (a .at + k .record-length .result)
     ≡ headOf (a .first) (a .run .now) (a .at)
 unfolding headOf recordFault firstOf allOf
 past c =
-    let k = c .before .before .before in
+    let k = c .before .before .before .before in
     let d = k .before in
     rw (
       four (else2 d),
       known d,
       long k,
-      same (c .before),
-      le-leb _ _ (c .if5 .left),
+      not-short (c .before .before),
+      not-long (c .before),
+      le-leb _ _ (c .if6 .left),
       ← d .before .before .get .ensures .0,
     )
 
 pub head-at-spec : {M : Type 1} → statement M
-unfolding headOf recordFault firstOf allOf
+unfolding headOf recordFault faultOffset firstOf allOf testsIn failsAt offsetIn
 head-at-spec =
     tie.close
     (tie.spec
     (λ c. let a = c .before .before .args in
-    rw (lt-leb 4 (length (a .run .now) - a .at) (omega arith)))
+    let none : length (a .run .now) - a .at ≡ 0 = omega arith in rw none)
     (λ c. search needs)
     (λ c. rw (lt-leb _ _ (c .if2 .taken)))
     (λ c. search needs)
@@ -104,10 +107,34 @@ head-at-spec =
     (λ c.
     let k = c .before .before in
     let d = k .before in
-    rw (four (else2 d), known d, long k, apart c))
+    rw (
+      four (else2 d),
+      known d,
+      long k,
+      ← c .before .get2 .ensures .0,
+      lt-leb _ _ (c .if4 .taken),
+    ))
     (λ c.
     let k = c .before .before .before in
     let d = k .before in
-    rw (four (else2 d), known d, long k, same (c .before), lt-leb _ _ (c .if5 .taken)))
+    rw (
+      four (else2 d),
+      known d,
+      long k,
+      not-short (c .before),
+      ← c .before .before .get2 .ensures .0,
+      lt-leb _ _ (c .if5 .taken),
+    ))
+    (λ c.
+    let k = c .before .before .before .before in
+    let d = k .before in
+    rw (
+      four (else2 d),
+      known d,
+      long k,
+      not-short (c .before .before),
+      not-long (c .before),
+      lt-leb _ _ (c .if6 .taken),
+    ))
     (λ c. search needs)
     past)

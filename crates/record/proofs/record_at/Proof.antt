@@ -18,13 +18,16 @@ record-at-spec =
     (λ c. search needs)
     (λ c. search needs)
     (λ c κs. search needs)
+    (λ c κs. search needs)
     (λ c.
-    let h = c .before .before .before in
+    let f = c .before in
+    let h = f .before .before .before in
     rw (
       lt-ltb _ _ (h .before .if1 .left),
-      c .head-fault .ensures,
+      f .head-fault .ensures,
+      c .head-offset .ensures,
       ← h .head-at .ensures,
-      c .before .enum-told .given .1,
+      f .before .enum-told .given .1,
     ))
     (λ c κs.
     let h = c .before .before .before in

@@ -1,0 +1,17 @@
+-- `accepted_at`: where a response with a lease has the accepted tick; past the end of any other
+-- (`no-accepted`).
+use borrow.Author.Tests.{ne-eqb}
+use Rattle.layout.specs.Layout.{moreOf, offsetIn}
+use Rattle.layout.proofs.Laws.{no-accepted}
+use borrow.Author.Needs.{needs}
+use Rattle.layout.proofs.accepted_at.Statement.{statement}
+use Rattle.layout.proofs.accepted_at.Tie as tie
+
+pub accepted-at-spec : {M : Type 1} → statement M
+unfolding moreOf offsetIn
+accepted-at-spec =
+    tie.close
+    (tie.spec
+    (λ c κs. search needs)
+    (λ c. rw (c .if1 .taken))
+    (λ c. rw (c .kind-length .ensures) (no-accepted _ (ne-eqb _ _ (c .before .if1 .left)) .0)))
