@@ -21,6 +21,7 @@ examples = record {
   zero-read = refl;
   zero-written = refl;
   zero-accepted = refl;
+  no-length = refl;
   hosts-refused = refl;
   party-refused = refl;
   no-receivers = (refl, refl);

@@ -4,7 +4,7 @@
 use mathlib.Core.Path.{_≡_}
 use mathlib.Core.List.{List, [], _∷_, _++_, map}
 use Prim.Native.Nat.{ℕ}
-use Rattle.base.specs.Refusals.{done, refusedHost, refusedParty, refusedRoom}
+use Rattle.base.specs.Refusals.{done, refusedHost, refusedParty, refusedRoom, refusedShort}
 use Rattle.message.specs.declared.Message.{Message}
 use Rattle.message.specs.declared.Message.the-variants.{PrepareRequest, ProposeRequest}
 use Rattle.message.specs.Message.{headWith}
@@ -47,6 +47,10 @@ pub record Examples : Type 0 where
   pub zero-read : readOf (sizes 1) (proposalBytes 0 0 0) ≡ Whole (proposal 0 0 0) 24
   pub zero-written : frameOf (proposal 0 0 0) ≡ proposalBytes 0 0 0
   pub zero-accepted : writeAnswer (sizes 1) (proposal 0 0 0) 24 ≡ done
+  -- a length field of 0 is 17 in each kind
+  pub no-length : map (λ k. readOf (sizes 3) (0 ∷ 0 ∷ k ∷ 0 ∷ [])) (1 ∷ 2 ∷ 3 ∷ 4 ∷ 5 ∷ 6 ∷ [])
+      ≡ let short = Refused refusedShort 0 in
+      short ∷ short ∷ short ∷ short ∷ short ∷ short ∷ []
   -- of two host numbers of n or more the first gives 5, at its offset, and alone each its own; the
   -- party of a response is its target
   pub hosts-refused : map (readOf (sizes 3))
