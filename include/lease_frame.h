@@ -30,7 +30,7 @@ enum lease_frame_answer {
     LEASE_FRAME_DONE = 0,
     LEASE_FRAME_CELL = 1,   /* n is not 1 to 9 */
     LEASE_FRAME_CUT = 2,    /* under 4 bytes, or fewer than the frame's length */
-    LEASE_FRAME_KIND = 3,   /* not one of the six kinds */
+    LEASE_FRAME_KIND = 3,   /* not one of the seven kinds */
     LEASE_FRAME_LENGTH = 4, /* the length field is above that kind's length */
     LEASE_FRAME_HOST = 5,   /* a host number of n or more */
     LEASE_FRAME_TICK = 6,   /* a tick or an end above its limit */
@@ -40,9 +40,9 @@ enum lease_frame_answer {
 };
 
 /*
- * The kinds of message. In a prepare request, a propose request and a learn
- * message the sender must be the ballot's host; in the responses the target
- * must be.
+ * The kinds of message. In a prepare request, a propose request, a learn
+ * message and a release request the sender must be the ballot's host; in the
+ * responses the target must be.
  */
 enum lease_frame_kind {
     LEASE_FRAME_PREPARE_REQUEST = 1,
@@ -50,7 +50,8 @@ enum lease_frame_kind {
     LEASE_FRAME_PREPARE_RESPONSE_LEASE = 3,
     LEASE_FRAME_PROPOSE_REQUEST = 4,
     LEASE_FRAME_PROPOSE_RESPONSE = 5,
-    LEASE_FRAME_LEARN = 6
+    LEASE_FRAME_LEARN = 6,
+    LEASE_FRAME_RELEASE_REQUEST = 7
 };
 
 /* The places of a message's numbers, as reading gives them. */

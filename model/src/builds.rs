@@ -1,12 +1,17 @@
-//! The build that follows document 01, and the five that it turns away, as switches in the rules.
+//! The build that follows the documents, and those that are to be turned away, as switches in the
+//! rules: document 01's five, and four that do wrong by document 02's release.
 
-/// Which of document 01's sentences a build breaks; the right one breaks none.
+/// Which of the documents' sentences a build breaks; the right one breaks none.
 #[derive(Clone, Copy, Debug, Default, PartialEq, Eq)]
 pub struct Build {
     pub accepts_without_raising_its_promise: bool,
     pub counts_a_repeated_response_twice: bool,
     pub names_up_to_the_keepers_end: bool,
     pub ballots_from_a_counter: bool,
+    pub takes_a_learn_of_its_own_lease: bool,
+    pub keeps_its_round_on_release: bool,
+    pub names_itself_until_its_release_comes: bool,
+    pub drops_whoever_owns_the_lease: bool,
     pub skips_by_the_length_field: bool,
 }
 
@@ -15,11 +20,15 @@ pub const RIGHT: Build = Build {
     counts_a_repeated_response_twice: false,
     names_up_to_the_keepers_end: false,
     ballots_from_a_counter: false,
+    takes_a_learn_of_its_own_lease: false,
+    keeps_its_round_on_release: false,
+    names_itself_until_its_release_comes: false,
+    drops_whoever_owns_the_lease: false,
     skips_by_the_length_field: false,
 };
 
-/// Document 01's 'Builds to turn away', in its order.
-pub const WRONG: [(&str, Build); 5] = [
+/// Document 01's 'Builds to turn away', in its order, with those of releases before the last.
+pub const WRONG: [(&str, Build); 9] = [
     (
         "accepts without raising its promise",
         Build { accepts_without_raising_its_promise: true, ..RIGHT },
@@ -30,6 +39,16 @@ pub const WRONG: [(&str, Build); 5] = [
         "takes ballots from a counter that restarts at zero",
         Build { ballots_from_a_counter: true, ..RIGHT },
     ),
+    ("takes a learn of its own lease", Build { takes_a_learn_of_its_own_lease: true, ..RIGHT }),
+    ("keeps its round when it lets go", Build { keeps_its_round_on_release: true, ..RIGHT }),
+    (
+        "names itself until its own release request comes in",
+        Build { names_itself_until_its_release_comes: true, ..RIGHT },
+    ),
+    (
+        "drops a lease at a release request, whoever owns it",
+        Build { drops_whoever_owns_the_lease: true, ..RIGHT },
+    ),
     (
         "skips by the length field without comparing it with the kind",
         Build { skips_by_the_length_field: true, ..RIGHT },
@@ -38,4 +57,4 @@ pub const WRONG: [(&str, Build); 5] = [
 
 /// The first so many break a rule of the cell, and lead to two holders; the last one breaks the
 /// reading of records.
-pub const WRONG_RULES: usize = 4;
+pub const WRONG_RULES: usize = 8;

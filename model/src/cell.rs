@@ -1,4 +1,4 @@
-//! The whole cell: its hosts, the messages under way in 96 slots, opening and the seven events.
+//! The whole cell: its hosts, the messages under way in 96 slots, opening and the eight events.
 
 use crate::builds::Build;
 use crate::host::{Case, Host, Rules, Sending};
@@ -66,6 +66,7 @@ pub enum Event {
     Lose { slot: u8 },
     Repeat { slot: u8 },
     Restart { host: u8 },
+    Release { host: u8 },
 }
 
 /// The messages under way, with one bit for each slot that holds one.
@@ -146,6 +147,7 @@ impl Cell {
             Event::Lose { slot } => self.lose(slot),
             Event::Repeat { slot } => self.repeat(slot),
             Event::Restart { host } => self.restart(host),
+            Event::Release { host } => self.release(host),
         };
         match done {
             Ok(()) => DONE,
@@ -224,7 +226,16 @@ impl Cell {
         Ok(())
     }
 
-    /// The owners that hosts name, as a set: agreement is that it has one member at most.
+    /// 'A release checks 5, 9, 18, 10, 13.'
+    fn release(&mut self, number: u8) -> Result<(), u8> {
+        let room = self.slots.room();
+        let host = self.hosts.get_mut(usize::from(number)).ok_or(HOST)?;
+        let sending = host.release(&self.rules, room)?;
+        self.slots.send(number, sending);
+        Ok(())
+    }
+
+    /// The owners that hosts name, as a set.
     pub fn owners(&self) -> Hosts {
         let owners = self.hosts.iter().filter_map(|host| host.named).map(|holder| holder.owner);
         owners.fold(Hosts::default(), Hosts::with)

@@ -1,5 +1,5 @@
 //! The comparison: run files from seeds, each played by the model and by the bench, whose listings
-//! must be the same bytes; and in the model no two hosts may name different owners.
+//! must be the same bytes; and in the model agreement must hold.
 
 use std::fs::{self, File};
 use std::io;
@@ -8,10 +8,11 @@ use std::process::{Command, Stdio};
 use std::sync::atomic::{AtomicU64, Ordering};
 use std::thread;
 
+use crate::agreement::Breach;
 use crate::builds::{Build, RIGHT, WRONG, WRONG_RULES};
 use crate::coverage::{add_all, Coverage, Onlooker};
 use crate::listing::{list, Unwatched};
-use crate::{damage, directed, generate};
+use crate::{damage, directed, generate, releases};
 
 /// So many listings at least must tell each wrong build from the bench.
 const LEAST_TOLD_APART: u64 = 20;
@@ -19,20 +20,26 @@ const LEAST_TOLD_APART: u64 = 20;
 /// After so many differences the rest is not looked at.
 const ENOUGH: usize = 10;
 
-/// A seed's file: of twenty, two are damaged, one is directed at a wrong build.
+/// A seed's file: of twenty, two are damaged, one is directed at a wrong build, and one goes
+/// through the turns of releases.
 pub fn file_of(seed: u64, build: Build) -> Vec<u8> {
     match seed % 20 {
         0 | 10 => damage::run(seed / 10),
         5 => directed::run(seed, (seed / 20) as usize % WRONG_RULES, build),
+        15 => releases::run(seed, build),
         _ => generate::run(seed, build),
     }
 }
 
-/// A listing of a file, and the first event after which two hosts name different owners.
-pub fn watched(bytes: &[u8], build: Build, coverage: &mut Coverage) -> (Vec<u8>, Option<u64>) {
+/// A listing of a file, and the first event after which agreement is broken.
+pub fn watched(
+    bytes: &[u8],
+    build: Build,
+    coverage: &mut Coverage,
+) -> (Vec<u8>, Option<(u64, Breach)>) {
     let mut onlooker = Onlooker::new(coverage);
     let listing = list(bytes, build, &mut onlooker);
-    (listing, onlooker.two_holders)
+    (listing, onlooker.breach)
 }
 
 /// What one worker found.
@@ -94,9 +101,9 @@ impl Comparison<'_> {
         let bytes = file_of(seed, RIGHT);
         fs::write(run_file, &bytes)?;
         let theirs = listing_by(self.bench, run_file)?;
-        let (ours, two_holders) = watched(&bytes, RIGHT, &mut found.coverage);
-        if let Some(place) = two_holders {
-            found.differences.push(format!("seed {}: two holders after event {}", seed, place));
+        let (ours, breach) = watched(&bytes, RIGHT, &mut found.coverage);
+        if let Some((place, breach)) = breach {
+            found.differences.push(format!("seed {}: after event {} {}", seed, place, breach));
         }
         if ours != theirs {
             found.differences.push(self.keep(seed, &bytes, &ours, &theirs)?);

@@ -1,14 +1,16 @@
-//! What a comparison has met: answers, stops, what deliveries came to, and what became of leases;
-//! and whether two hosts ever named different owners.
+//! What a comparison has met: answers, stops, what deliveries came to, the turns of releases, and
+//! what became of leases; and whether agreement was ever broken.
 
-use crate::cell::Cell;
+use crate::agreement::{Agreement, Breach};
+use crate::cell::{Cell, Event};
 use crate::host::{Case, CASES};
 use crate::listing::Watch;
 use crate::message::Holder;
-use crate::record::{ADVANCE_ALL, RESTART, SETTINGS_LENGTH};
-use crate::refusal::{Fault, NUMBERS};
+use crate::record::{ADVANCE_ALL, RELEASE, SETTINGS_LENGTH};
+use crate::refusal::{Fault, DONE, NUMBERS};
+use crate::turns::{Turn, TURNS};
 
-const KINDS: usize = (RESTART - ADVANCE_ALL + 1) as usize;
+const KINDS: usize = (RELEASE - ADVANCE_ALL + 1) as usize;
 
 /// The answers that an event of each kind, from 101 on, can have from an opened cell.
 const POSSIBLE: [&[usize]; KINDS] = [
@@ -19,6 +21,7 @@ const POSSIBLE: [&[usize]; KINDS] = [
     &[0, 12],
     &[0, 12, 13],
     &[0, 5],
+    &[0, 5, 9, 10, 13, 18],
 ];
 
 /// The numbers that a run file can stop by, with the offsets that each can have; a cut as far as
@@ -40,6 +43,7 @@ const OFFSETS: usize = SETTINGS_LENGTH;
 const LEAST_ANSWERS: u64 = 500;
 const LEAST_STOPS: u64 = 5;
 const LEAST_CASES: u64 = 200;
+const LEAST_TURNS: u64 = 200;
 const LEAST_LEASES: u64 = 1_000;
 
 #[derive(Clone, Debug, Default)]
@@ -49,9 +53,12 @@ pub struct Coverage {
     pub answers: [[u64; NUMBERS]; KINDS],
     stops: [[u64; OFFSETS]; NUMBERS],
     pub cases: [u64; CASES],
+    turns: [u64; TURNS],
     named: u64,
     renewed: u64,
     passed_on: u64,
+    /// Passed on before its end.
+    passed_on_early: u64,
 }
 
 impl Coverage {
@@ -61,6 +68,7 @@ impl Coverage {
         self.named += other.named;
         self.renewed += other.renewed;
         self.passed_on += other.passed_on;
+        self.passed_on_early += other.passed_on_early;
         for (row, others) in self.answers.iter_mut().zip(&other.answers) {
             add_all(row, others);
         }
@@ -68,6 +76,7 @@ impl Coverage {
             add_all(row, others);
         }
         add_all(&mut self.cases, &other.cases);
+        add_all(&mut self.turns, &other.turns);
     }
 
     /// What was met too rarely, a line each.
@@ -92,16 +101,21 @@ impl Coverage {
         for case in Case::ALL {
             want(format!("{:?}", case), self.cases[case as usize], LEAST_CASES);
         }
+        for turn in Turn::ALL {
+            want(format!("{:?}", turn), self.turns[turn as usize], LEAST_TURNS);
+        }
         want("a holder named".into(), self.named, LEAST_LEASES);
         want("a lease renewed".into(), self.renewed, LEAST_LEASES);
         want("a lease passed on".into(), self.passed_on, LEAST_LEASES);
+        want("a lease passed on early".into(), self.passed_on_early, LEAST_LEASES);
         lacks
     }
 
     /// The counts, for a person.
     pub fn print(&self) {
         println!("{} files, {} events", self.files, self.events);
-        println!("named {} renewed {} passed on {}", self.named, self.renewed, self.passed_on);
+        println!("named {} renewed {}", self.named, self.renewed);
+        println!("passed on {}, of which early {}", self.passed_on, self.passed_on_early);
         for (row, kind) in self.answers.iter().zip(ADVANCE_ALL..) {
             println!("answers to {}: {}", kind, numbered(row));
         }
@@ -112,6 +126,9 @@ impl Coverage {
         }
         for case in Case::ALL {
             println!("{:?}: {}", case, self.cases[case as usize]);
+        }
+        for turn in Turn::ALL {
+            println!("{:?}: {}", turn, self.turns[turn as usize]);
         }
     }
 }
@@ -132,14 +149,27 @@ pub struct Onlooker<'a> {
     coverage: &'a mut Coverage,
     named: Vec<Option<Holder>>,
     last_owner: Option<u8>,
-    /// The place of the first event after which two hosts name different owners.
-    pub two_holders: Option<u64>,
+    /// Whoever last named itself.
+    last_holder: Option<Holder>,
+    /// The turns of the event that comes.
+    turns: Vec<Turn>,
+    agreement: Agreement,
+    /// The place of the first event after which agreement is broken.
+    pub breach: Option<(u64, Breach)>,
 }
 
 impl<'a> Onlooker<'a> {
     pub fn new(coverage: &'a mut Coverage) -> Onlooker<'a> {
         coverage.files += 1;
-        Onlooker { coverage, named: Vec::new(), last_owner: None, two_holders: None }
+        Onlooker {
+            coverage,
+            named: Vec::new(),
+            last_owner: None,
+            last_holder: None,
+            turns: Vec::new(),
+            agreement: Agreement::default(),
+            breach: None,
+        }
     }
 
     fn naming(&mut self, before: Option<Holder>, now: Option<Holder>) {
@@ -159,11 +189,25 @@ impl<'a> Onlooker<'a> {
         }
         self.last_owner = Some(now.owner);
     }
+
+    /// A host has come to name itself; that is early where no clock is at the last one's end.
+    fn holding(&mut self, now: Holder, cell: &Cell) {
+        let ended = |last: Holder| cell.hosts.iter().any(|host| last.end.has_come(host.clock));
+        let early = |last: Holder| last.owner != now.owner && !ended(last);
+        if self.last_holder.map_or(false, early) {
+            self.coverage.passed_on_early += 1;
+        }
+        self.last_holder = Some(now);
+    }
 }
 
 impl Watch for Onlooker<'_> {
     fn opened(&mut self, cell: &Cell) {
         self.named = cell.hosts.iter().map(|host| host.named).collect();
+    }
+
+    fn before(&mut self, event: Event, cell: &Cell) {
+        self.turns = Turn::of(event, cell);
     }
 
     fn event(&mut self, place: u64, kind: u16, answer: u8, cell: &Cell) {
@@ -172,13 +216,19 @@ impl Watch for Onlooker<'_> {
         if let Some(case) = cell.case {
             self.coverage.cases[case as usize] += 1;
         }
+        for turn in self.turns.drain(..).filter(|_| answer == DONE) {
+            self.coverage.turns[turn as usize] += 1;
+        }
         for (at, host) in cell.hosts.iter().enumerate() {
             self.naming(self.named[at], host.named);
+            let is_new = host.names_itself() && host.named != self.named[at];
+            if let Some(now) = host.named.filter(|_| is_new) {
+                self.holding(now, cell);
+            }
             self.named[at] = host.named;
         }
-        if self.two_holders.is_none() && cell.owners().size() > 1 {
-            self.two_holders = Some(place);
-        }
+        let breach = self.agreement.breach(kind, answer, cell);
+        self.breach = self.breach.or(breach.map(|breach| (place, breach)));
     }
 
     fn stop(&mut self, fault: Fault) {

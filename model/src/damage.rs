@@ -90,7 +90,7 @@ fn cut_fields(random: &mut Random, bytes: &mut Vec<u8>) {
 fn a_kind(random: &mut Random) -> u64 {
     match random.below(6) {
         0 => 0,
-        1 => random.between(99, 108),
+        1 => random.between(99, 109),
         2 => 101 << 8,
         3 => 256 + 104,
         _ => random.below(65_536),

@@ -24,7 +24,11 @@ pub fn run_in(settings: Settings, of: usize, build: Build) -> Vec<u8> {
         0 => accepted_over(&mut driver, duration),
         1 => answered_by_itself(&mut driver, duration),
         2 => named_behind_the_others(&mut driver, duration),
-        _ => answered_before_a_restart(&mut driver, duration),
+        3 => answered_before_a_restart(&mut driver, duration),
+        4 => told_of_its_own_lease(&mut driver, duration),
+        5 => let_go_in_a_round(&mut driver, duration),
+        6 => let_go_by_the_others(&mut driver, duration),
+        _ => let_go_after_the_next(&mut driver, duration),
     }
     driver.bytes
 }
@@ -113,4 +117,69 @@ fn answered_before_a_restart(driver: &mut Driver, duration: u64) {
     driver.start(0, duration);
     driver.respond(0, Phase::Prepare, others.clone());
     driver.respond(0, Phase::Propose, others);
+}
+
+/// Host 1 finds host 0's lease and proposes it, and its learn to host 0 is held back until host 0
+/// has let go and host 2 holds the next one.
+fn told_of_its_own_lease(driver: &mut Driver, duration: u64) {
+    let n = driver.cell.rules.n;
+    driver.round(0, duration, 0..n);
+    driver.advance_all(1);
+    driver.round(1, duration, 0..n);
+    driver.advance_all(1);
+    driver.release(0);
+    driver.let_go(0, 0..n);
+    driver.round(2, duration, 1..n);
+    driver.learn(1, [0]);
+}
+
+/// Host 0 lets go while all have accepted its renewal, and counts their responses when host 2 holds
+/// the next lease.
+fn let_go_in_a_round(driver: &mut Driver, duration: u64) {
+    let n = driver.cell.rules.n;
+    driver.round(0, duration, 0..n);
+    driver.advance_all(1);
+    driver.start(0, duration);
+    driver.request(0, Phase::Prepare, 0..n);
+    driver.respond(0, Phase::Prepare, 0..n);
+    driver.request(0, Phase::Propose, 0..n);
+    driver.advance_all(1);
+    driver.release(0);
+    driver.let_go(0, 1..n);
+    driver.round(2, duration, 1..n);
+    for sender in 0..n {
+        driver.deliver(|message| is_response(message, Phase::Propose, sender, 0));
+    }
+}
+
+/// Host 0 lets go, and its own release request is held back; host 2 takes the next lease.
+fn let_go_by_the_others(driver: &mut Driver, duration: u64) {
+    let n = driver.cell.rules.n;
+    driver.round(0, duration, 0..n);
+    driver.advance_all(1);
+    driver.release(0);
+    driver.let_go(0, 1..n);
+    driver.round(2, duration, 1..n);
+}
+
+/// Host 1, its clock behind by the whole spread, asks before host 0 lets go, and is answered when
+/// host 0's lease has ended for the others: its lease has a ballot below the release's, which comes
+/// to them only then. Host 0 asks once more.
+fn let_go_after_the_next(driver: &mut Driver, duration: u64) {
+    let rules = driver.cell.rules;
+    let others = || (0..rules.n).filter(|&host| host != 1);
+    driver.round(0, 2, 0..rules.n);
+    driver.start(1, duration);
+    driver.advance_all(1);
+    driver.release(0);
+    driver.advance_all(1);
+    for host in others() {
+        driver.advance_one(host, rules.spread);
+    }
+    for phase in PHASES {
+        driver.request(1, phase, others());
+        driver.respond(1, phase, others());
+    }
+    driver.let_go(0, others());
+    driver.round(0, duration, others());
 }

@@ -46,6 +46,10 @@ impl Driver {
         self.apply(Event::Start { host, duration: duration as u32 });
     }
 
+    pub fn release(&mut self, host: u8) {
+        self.apply(Event::Release { host });
+    }
+
     /// The slots whose messages are as asked, rising.
     pub fn slots_with(&self, wanted: impl Fn(&Message) -> bool) -> Vec<u8> {
         let holds = |slot: &u8| self.cell.slots.get(*slot).map_or(false, &wanted);
@@ -86,6 +90,26 @@ impl Driver {
         for sender in from {
             self.deliver(|message| {
                 is_response(message, phase, sender, to) && last == tick(message)
+            });
+        }
+    }
+
+    /// The release requests of one host, delivered to some hosts.
+    pub fn let_go(&mut self, of: u8, to: impl IntoIterator<Item = u8>) {
+        for target in to {
+            self.deliver(|message| {
+                let asked = message.body == Body::ReleaseRequest;
+                asked && (message.sender, message.target) == (of, target)
+            });
+        }
+    }
+
+    /// The learn messages of one host, delivered to some hosts.
+    pub fn learn(&mut self, from: u8, to: impl IntoIterator<Item = u8>) {
+        for target in to {
+            self.deliver(|message| {
+                let told = matches!(message.body, Body::Learn { .. });
+                told && (message.sender, message.target) == (from, target)
             });
         }
     }

@@ -17,6 +17,9 @@ struct Temper {
     lose: u64,
     repeat: u64,
     restart: u64,
+    /// A host that can let go does so. At 0 none ever does, so that the wider agreement is looked
+    /// for in all of the run.
+    release: u64,
     /// A start while messages are under way.
     start: u64,
     advance: u64,
@@ -34,6 +37,8 @@ struct Temper {
     restless: u64,
     /// Slots being filled up from here on.
     filling: u64,
+    /// What a host sends to all, or what is on its way to one that restarts, being held back.
+    hold: u64,
 }
 
 /// So many bytes are left for the records that fill a file to its last byte.
@@ -54,7 +59,7 @@ pub fn run_in(settings: Settings, mut random: Random, build: Build) -> Vec<u8> {
         Some(driver) => {
             let reach = Hosts::all(settings.n);
             let generator =
-                Generator { random, driver, temper, focus: None, reach, filling: false };
+                Generator { random, driver, temper, focus: None, reach, filling: false, held: 0 };
             generator.fill(length)
         }
         None => settings_alone(settings),
@@ -120,6 +125,7 @@ fn temper(random: &mut Random) -> Temper {
         lose: rough * random.below(60),
         repeat: rough * random.below(80),
         restart: [0, 2, 6, 20][random.below(4) as usize],
+        release: [0, 0, 20, 100][random.below(4) as usize],
         start: [2, 10, 50][random.below(3) as usize],
         advance: [2, 10, 30, 100][random.below(4) as usize],
         hasty: random.between(0, 1000),
@@ -129,6 +135,7 @@ fn temper(random: &mut Random) -> Temper {
         switch: [0, 30, 100, 200][random.below(4) as usize],
         restless: random.between(0, 900),
         filling: [0, 0, 1, 4][random.below(4) as usize],
+        hold: [0, 0, 0, 300][random.below(4) as usize],
     }
 }
 
@@ -142,6 +149,8 @@ struct Generator {
     reach: Hosts,
     /// Whether slots are being filled up, until none is empty.
     filling: bool,
+    /// The slots that are held back, one bit each.
+    held: u128,
 }
 
 impl Generator {
@@ -153,6 +162,7 @@ impl Generator {
             }
             let event = self.event();
             self.driver.apply(event);
+            self.hold(event);
         }
         if length == LONGEST_FILE {
             self.close();
@@ -188,6 +198,11 @@ impl Generator {
         if self.random.chance(self.temper.restart) {
             return Event::Restart { host: self.host_to_restart() };
         }
+        if self.random.chance(self.temper.release) {
+            if let Some(host) = self.able_to_let_go() {
+                return self.release(host);
+            }
+        }
         if self.random.chance(self.temper.advance) {
             return self.advance();
         }
@@ -220,8 +235,37 @@ impl Generator {
         }
     }
 
+    /// Holds messages back after an event; lets them go when most leases have ended, or slots are
+    /// few.
+    fn hold(&mut self, event: Event) {
+        if self.driver.cell.slots.room() < SLOTS as u32 / 2 {
+            self.held = 0;
+        }
+        let tick = |host: u8| self.driver.cell.hosts.get(usize::from(host))?.last_tick;
+        let slots = match event {
+            Event::AdvanceAll { .. } | Event::AdvanceOne { .. } => return self.let_go_of_held(),
+            _ if !self.random.chance(self.temper.hold) => return,
+            Event::Start { host, .. } | Event::Release { host } => self.taken(|message| {
+                message.ballot.host == host && tick(host) == Some(message.ballot.tick)
+            }),
+            Event::Restart { host } => self.taken(|message| message.target == host),
+            _ => return,
+        };
+        self.held = slots.iter().fold(self.held, |held, slot| held | 1 << slot);
+    }
+
+    fn let_go_of_held(&mut self) {
+        let keepers = self.hosts(|host| host.accepted.is_some()).len();
+        if self.held != 0 && keepers * 2 < self.driver.cell.hosts.len() {
+            self.held = 0;
+            self.switch_focus();
+        }
+    }
+
     fn taken(&self, wanted: impl Fn(&Message) -> bool) -> Vec<u8> {
-        self.driver.slots_with(wanted)
+        let mut slots = self.driver.slots_with(wanted);
+        slots.retain(|slot| self.held >> slot & 1 == 0);
+        slots
     }
 
     fn any_taken(&mut self) -> Option<u8> {
@@ -298,6 +342,22 @@ impl Generator {
 
     fn able_to_start(&self) -> Vec<u8> {
         self.hosts(|host| !host.waits() && host.last_tick.map_or(true, |last| host.clock > last))
+    }
+
+    fn able_to_let_go(&mut self) -> Option<u8> {
+        if self.temper.release == 0 {
+            return None;
+        }
+        let able = self.able_to_start();
+        let holders = self.hosts(|host| host.names_itself() && able.contains(&host.number));
+        self.random.pick(&holders).copied()
+    }
+
+    /// Its release requests are delivered next, or as any others.
+    fn release(&mut self, host: u8) -> Event {
+        self.focus = Some(host).filter(|_| self.random.chance(500));
+        self.draw_reach();
+        Event::Release { host }
     }
 
     fn duration(&mut self) -> u32 {
@@ -420,6 +480,10 @@ impl Generator {
             }
             1..=4 => Event::Repeat { slot },
             5 | 6 => self.start_or_advance(),
+            7 | 8 => match self.able_to_let_go() {
+                Some(host) => self.release(host),
+                None => Event::Repeat { slot },
+            },
             _ => Event::Deliver { slot: self.focused().unwrap_or(slot) },
         }
     }
@@ -430,7 +494,7 @@ impl Generator {
         let host = self.any_host();
         let no_host = self.random.between(u64::from(rules.n), 255) as u8;
         let duration = self.duration();
-        match self.random.below(16) {
+        match self.random.below(19) {
             0 => Event::Start { host: no_host, duration },
             1 => Event::AdvanceOne { host: no_host, ticks: 1 },
             2 => Event::Restart { host: no_host },
@@ -444,6 +508,9 @@ impl Generator {
             11 | 12 => self.past_the_spread(host),
             13 => Event::Deliver { slot: self.empty_slot() },
             14 => Event::Lose { slot: self.empty_slot() },
+            15 => Event::Release { host: no_host },
+            16 => self.release_of_one_unable(no_host),
+            17 if self.temper.release > 0 => Event::Release { host },
             _ => Event::Repeat { slot: self.empty_slot() },
         }
     }
@@ -455,6 +522,15 @@ impl Generator {
             Some(&host) => Event::Start { host, duration },
             None => Event::Start { host: self.any_host(), duration },
         }
+    }
+
+    /// A holder that took its last ballot in this tick, or a waiting host; where there is neither,
+    /// no host.
+    fn release_of_one_unable(&mut self, no_host: u8) -> Event {
+        let able = self.able_to_start();
+        let unable = self
+            .hosts(|host| (host.waits() || host.names_itself()) && !able.contains(&host.number));
+        Event::Release { host: self.random.pick(&unable).copied().unwrap_or(no_host) }
     }
 
     /// So many ticks, or one less, that a clock would pass 2^48, where a record can say so many.

@@ -1,9 +1,10 @@
-//! One host as proposer, acceptor and learner: document 01's 'What each event does', host by host.
+//! One host as proposer, acceptor and learner: document 01's 'What each event does', host by host,
+//! with document 02's release.
 //! A step that would send more messages than there is room for changes nothing.
 
 use crate::builds::Build;
 use crate::message::{Ballot, Body, Holder, Hosts, KeepersEnd, Lease, Message};
-use crate::refusal::{DURATION, FULL, SAME_TICK, WAITING};
+use crate::refusal::{DURATION, FULL, NOT_HOLDER, SAME_TICK, WAITING};
 
 /// What every host of a cell goes by.
 #[derive(Clone, Copy, Debug)]
@@ -80,12 +81,17 @@ pub enum Case {
     ChosenTooLate,
     ChosenNamed,
     ChosenNotHigher,
+    LearnOwn,
     LearnExpired,
     LearnNamed,
     LearnNotHigher,
+    ReleaseBelow,
+    ReleaseAgain,
+    ReleasePromised,
+    ReleaseDropped,
 }
 
-pub const CASES: usize = Case::LearnNotHigher as usize + 1;
+pub const CASES: usize = Case::ReleaseDropped as usize + 1;
 
 impl Case {
     pub const ALL: [Case; CASES] = [
@@ -112,9 +118,14 @@ impl Case {
         Case::ChosenTooLate,
         Case::ChosenNamed,
         Case::ChosenNotHigher,
+        Case::LearnOwn,
         Case::LearnExpired,
         Case::LearnNamed,
         Case::LearnNotHigher,
+        Case::ReleaseBelow,
+        Case::ReleaseAgain,
+        Case::ReleasePromised,
+        Case::ReleaseDropped,
     ];
 }
 
@@ -186,6 +197,16 @@ impl Host {
         }
     }
 
+    /// A new ballot, for a message to all n: 10, then 13 if `room` is too little.
+    fn take_ballot(&mut self, rules: &Rules, room: u32) -> Result<Ballot, u8> {
+        let tick = self.ballot_tick(rules.build)?;
+        if room < u32::from(rules.n) {
+            return Err(FULL);
+        }
+        self.last_tick = Some(tick);
+        Ok(Ballot { tick, host: self.number })
+    }
+
     /// 'Start 5, 9, 11, 10, 13', of which 5 is the cell's.
     pub fn start(&mut self, rules: &Rules, duration: u64, room: u32) -> Result<Sending, u8> {
         if self.waits() {
@@ -194,12 +215,7 @@ impl Host {
         if duration < 1 || duration > rules.longest - rules.spread {
             return Err(DURATION);
         }
-        let tick = self.ballot_tick(rules.build)?;
-        if room < u32::from(rules.n) {
-            return Err(FULL);
-        }
-        let ballot = Ballot { tick, host: self.number };
-        self.last_tick = Some(tick);
+        let ballot = self.take_ballot(rules, room)?;
         self.round = Round::Asking {
             ballot,
             own_end: KeepersEnd(self.clock + duration + rules.spread),
@@ -208,6 +224,29 @@ impl Host {
         };
         let receivers = Hosts::all(rules.n);
         Ok(Sending { ballot, body: Body::PrepareRequest, receivers })
+    }
+
+    pub fn names_itself(&self) -> bool {
+        self.named.map_or(false, |holder| holder.owner == self.number)
+    }
+
+    /// 'It stops naming itself, drops its round, takes a ballot and sends a release request ... to
+    /// all n.' 'A release checks 5, 9, 18, 10, 13', of which 5 is the cell's.
+    pub fn release(&mut self, rules: &Rules, room: u32) -> Result<Sending, u8> {
+        if self.waits() {
+            return Err(WAITING);
+        }
+        if !self.names_itself() {
+            return Err(NOT_HOLDER);
+        }
+        let ballot = self.take_ballot(rules, room)?;
+        if !rules.build.names_itself_until_its_release_comes {
+            self.named = None;
+        }
+        if !rules.build.keeps_its_round_on_release {
+            self.round = Round::Idle;
+        }
+        Ok(Sending { ballot, body: Body::ReleaseRequest, receivers: Hosts::all(rules.n) })
     }
 
     /// 'A waiting host does nothing.' Else by the kind of message; 13 if `room` is too little.
@@ -225,7 +264,10 @@ impl Host {
                 Ok(self.propose_request(rules, Lease { ballot, owner, end }))
             }
             Body::ProposeResponse => self.propose_response(rules, sender, ballot, room),
-            Body::Learn { owner, end } => Ok((self.learn(Holder { ballot, owner, end }), None)),
+            Body::Learn { owner, end } => {
+                Ok((self.learn(rules, Holder { ballot, owner, end }), None))
+            }
+            Body::ReleaseRequest => Ok((self.release_request(rules, ballot), None)),
         }
     }
 
@@ -375,14 +417,40 @@ impl Host {
         Ok((case, Some(Sending { ballot, body: Body::Learn { owner, end }, receivers })))
     }
 
-    /// 'Nothing if its end is at or below the clock. Else name the owner.'
-    fn learn(&mut self, holder: Holder) -> Case {
-        if holder.end.has_come(self.clock) {
+    /// 'Nothing if its end is at or below the clock. Else name the owner.' 'A learn message that
+    /// names its own receiver is ignored.'
+    fn learn(&mut self, rules: &Rules, holder: Holder) -> Case {
+        if holder.owner == self.number && !rules.build.takes_a_learn_of_its_own_lease {
+            Case::LearnOwn
+        } else if holder.end.has_come(self.clock) {
             Case::LearnExpired
         } else if self.name(holder) {
             Case::LearnNamed
         } else {
             Case::LearnNotHigher
+        }
+    }
+
+    /// 'Ignores it below its promise; else it promises that ballot, and drops an accepted lease or
+    /// named holder owned by the sender if its ballot is lower. No reply is sent.' The sender is
+    /// the ballot's host.
+    fn release_request(&mut self, rules: &Rules, release: Ballot) -> Case {
+        if self.promised.map_or(false, |promised| release < promised) {
+            return Case::ReleaseBelow;
+        }
+        let again = self.promised == Some(release);
+        self.promised = Some(release);
+        let stays = |ballot: Ballot, owner: u8| {
+            let owned = owner == release.host || rules.build.drops_whoever_owns_the_lease;
+            !owned || ballot >= release
+        };
+        let before = (self.accepted, self.named);
+        self.accepted = self.accepted.filter(|lease| stays(lease.ballot, lease.owner));
+        self.named = self.named.filter(|holder| stays(holder.ballot, holder.owner));
+        match before == (self.accepted, self.named) {
+            false => Case::ReleaseDropped,
+            true if again => Case::ReleaseAgain,
+            true => Case::ReleasePromised,
         }
     }
 
@@ -407,5 +475,103 @@ fn highest(kept: Option<Lease>, lease: Option<Lease>) -> Option<Lease> {
         (Some(kept), Some(lease)) if lease.ballot > kept.ballot => Some(lease),
         (Some(kept), _) => Some(kept),
         (None, lease) => lease,
+    }
+}
+
+#[cfg(test)]
+mod tests {
+    use super::*;
+    use crate::builds::RIGHT;
+    use crate::message::HoldersEnd;
+
+    const RULES: Rules = Rules { n: 3, longest: 100, spread: 5, build: RIGHT };
+    const ROOM: u32 = 96;
+
+    fn ballot(tick: u64, host: u8) -> Ballot {
+        Ballot { tick, host }
+    }
+
+    fn lease(tick: u64, owner: u8) -> Lease {
+        Lease { ballot: ballot(tick, owner), owner, end: KeepersEnd(160) }
+    }
+
+    fn holder(tick: u64, owner: u8) -> Holder {
+        Holder { ballot: ballot(tick, owner), owner, end: HoldersEnd(155) }
+    }
+
+    /// At 110, awake, with what it has accepted promised.
+    fn host(number: u8, accepted: Option<Lease>, named: Option<Holder>) -> Host {
+        let promised = accepted.map(|lease| lease.ballot);
+        let last_tick = Some(105);
+        let mut host = Host::new(&RULES, number, 0);
+        host.advance(110);
+        Host { promised, accepted, last_tick, named, ..host }
+    }
+
+    /// What a release of host 0 with that tick comes to.
+    fn told(host: &mut Host, tick: u64) -> Option<Case> {
+        let (sender, target, ballot) = (0, host.number, ballot(tick, 0));
+        let message = Message { sender, target, ballot, body: Body::ReleaseRequest };
+        host.receive(&RULES, &message, 0).ok().map(|(case, _)| case)
+    }
+
+    #[test]
+    fn whoever_lets_go_keeps_promise_and_lease_until_told() {
+        let mut host = host(0, Some(lease(105, 0)), Some(holder(105, 0)));
+        let sent = host.release(&RULES, ROOM).map(|sending| (sending.ballot, sending.receivers));
+        assert_eq!(sent, Ok((ballot(110, 0), Hosts::all(3))));
+        assert_eq!((host.named, host.last_tick), (None, Some(110)));
+        assert_eq!((host.promised, host.accepted), (Some(ballot(105, 0)), Some(lease(105, 0))));
+        assert_eq!(told(&mut host, 110), Some(Case::ReleaseDropped));
+        assert_eq!((host.promised, host.accepted), (Some(ballot(110, 0)), None));
+    }
+
+    #[test]
+    fn a_release_is_refused_by_9_18_10_and_13_in_this_order() {
+        let refused = |host: &Host, room| host.clone().release(&RULES, room).err();
+        let holding = host(0, None, Some(holder(105, 0)));
+        assert_eq!(refused(&holding, 3), None);
+        assert_eq!(refused(&holding, 2), Some(FULL));
+        let used = Host { last_tick: Some(110), ..holding.clone() };
+        assert_eq!(refused(&used, 2), Some(SAME_TICK));
+        assert_eq!(refused(&Host { named: Some(holder(105, 1)), ..used }, 2), Some(NOT_HOLDER));
+        assert_eq!(refused(&Host { wait_end: 111, ..holding }, 2), Some(WAITING));
+    }
+
+    #[test]
+    fn lease_and_holder_are_judged_each_for_itself() {
+        let mut higher = host(1, Some(lease(105, 0)), Some(holder(111, 0)));
+        assert_eq!(told(&mut higher, 110), Some(Case::ReleaseDropped));
+        assert_eq!((higher.accepted, higher.named), (None, Some(holder(111, 0))));
+        let mut anothers = host(1, Some(lease(106, 2)), Some(holder(105, 0)));
+        assert_eq!(told(&mut anothers, 110), Some(Case::ReleaseDropped));
+        assert_eq!((anothers.accepted, anothers.named), (Some(lease(106, 2)), None));
+    }
+
+    #[test]
+    fn a_release_is_taken_at_an_equal_promise_and_not_below_it() {
+        let mut host = host(1, None, None);
+        assert_eq!(told(&mut host, 110), Some(Case::ReleasePromised));
+        assert_eq!(told(&mut host, 110), Some(Case::ReleaseAgain));
+        host.named = Some(holder(105, 0));
+        assert_eq!(told(&mut host, 109), Some(Case::ReleaseBelow));
+        assert_eq!(host.named, Some(holder(105, 0)));
+        assert_eq!(told(&mut host, 110), Some(Case::ReleaseDropped));
+        assert_eq!(host.named, None);
+        host.restart(&RULES);
+        assert_eq!(told(&mut host, 110), Some(Case::Waits));
+        assert_eq!(host.promised, None);
+    }
+
+    #[test]
+    fn a_learn_of_its_own_lease_is_ignored() {
+        let Holder { owner, end, .. } = holder(105, 0);
+        let (ballot, body) = (ballot(111, 1), Body::Learn { owner, end });
+        for named in [None, Some(holder(105, 0)), Some(holder(105, 2))] {
+            let mut host = host(0, None, named);
+            let message = Message { sender: 1, target: 0, ballot, body };
+            let case = host.receive(&RULES, &message, 0).ok().map(|(case, _)| case);
+            assert_eq!((case, host.named), (Some(Case::LearnOwn), named));
+        }
     }
 }

@@ -2,6 +2,7 @@
 //! cells, hosts, run files and their listings, the wrong builds behind switches, and seeded run
 //! files.
 
+pub mod agreement;
 pub mod builds;
 pub mod cell;
 pub mod compare;
@@ -17,4 +18,6 @@ pub mod message;
 pub mod random;
 pub mod record;
 pub mod refusal;
+pub mod releases;
+pub mod turns;
 pub mod wrong;

@@ -2,7 +2,7 @@
 //! document 02's offset at the end of the `stop` line.
 
 use crate::builds::Build;
-use crate::cell::{Cell, Settings};
+use crate::cell::{Cell, Event, Settings};
 use crate::record;
 use crate::refusal::{Fault, DONE, LONG};
 
@@ -11,6 +11,7 @@ pub const LONGEST_FILE: usize = 65_536;
 /// Whoever looks on while a run file is played.
 pub trait Watch {
     fn opened(&mut self, _cell: &Cell) {}
+    fn before(&mut self, _event: Event, _cell: &Cell) {}
     fn event(&mut self, _place: u64, _kind: u16, _answer: u8, _cell: &Cell) {}
     fn stop(&mut self, _fault: Fault) {}
 }
@@ -55,6 +56,7 @@ fn play(
                 break;
             }
         };
+        watch.before(event, &cell);
         let answer = cell.apply(event);
         match answer {
             DONE => applied += 1,
@@ -130,7 +132,7 @@ mod tests {
     use super::*;
     use crate::builds::RIGHT;
     use crate::cell::{LAST_TICK, LONGEST};
-    use crate::record::{event_length, write_settings, RESTART, SETTINGS, SETTINGS_LENGTH};
+    use crate::record::{event_length, write_settings, RELEASE, SETTINGS, SETTINGS_LENGTH};
 
     const OPENED: Settings = Settings { n: 3, longest: 100, spread: 5, clock: 0 };
     const ADVANCE: [u8; 8] = [8, 0, 101, 0, 10, 0, 0, 0];
@@ -166,7 +168,7 @@ mod tests {
         for count in 0..SETTINGS_LENGTH {
             assert_eq!(stop_of(&settings[..count]), format!("stop 0 2 {}", count));
         }
-        for kind in SETTINGS + 1..=RESTART {
+        for kind in SETTINGS + 1..=RELEASE {
             let length = event_length(kind).unwrap_or(0);
             let mut bytes = with_record(length as u16, kind);
             bytes.resize(29 + length, 0);
@@ -181,7 +183,7 @@ mod tests {
     #[test]
     fn a_wrong_kind_is_at_2() {
         assert_eq!(stop_of(&ADVANCE), "stop 0 3 2");
-        for kind in (0..=SETTINGS).chain(RESTART + 1..=u16::MAX) {
+        for kind in (0..=SETTINGS).chain(RELEASE + 1..=u16::MAX) {
             assert_eq!(stop_of(&with_record(0, kind)), "stop 29 3 2", "kind {}", kind);
         }
     }
@@ -193,7 +195,7 @@ mod tests {
             settings[..2].copy_from_slice(&told.to_le_bytes());
             assert_eq!(stop_of(&settings), told_wrong(0, told, SETTINGS_LENGTH));
         }
-        for kind in SETTINGS + 1..=RESTART {
+        for kind in SETTINGS + 1..=RELEASE {
             let length = event_length(kind).unwrap_or(0);
             for told in (0..=u16::MAX).filter(|&told| usize::from(told) != length) {
                 let expected = told_wrong(29, told, length);
@@ -231,7 +233,7 @@ mod tests {
 
     #[test]
     fn the_stop_stands_before_the_counts_or_alone() {
-        let listing = list(&with_record(4, RESTART), RIGHT, &mut Unwatched);
+        let listing = list(&with_record(4, RELEASE), RIGHT, &mut Unwatched);
         let expected = "3 100 5 0\n1 101 0 - - -\nstop 29 17 0\napplied 1 refused 0\n";
         assert_eq!(String::from_utf8_lossy(&listing), expected);
         assert_eq!(list(&[], RIGHT, &mut Unwatched), b"stop 0 2 0\n");

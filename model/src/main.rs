@@ -12,8 +12,9 @@ const USAGE: &str = "\
 model < RUNFILE                      the listing of a run file
 model --compare BENCH FOLDER FILES   compares so many listings with those of BENCH
 model --counts BENCH FOLDER FILES    the same, and says what was met
-model --wrong                        a run with two holders for each wrong build
+model --wrong                        a run that breaks agreement for each wrong build
 model --turned-away                  the same, silent where there is one
+model --first-seeds                  the first of any runs that do so, in some minutes
 model --measure BENCH FOLDER         times of listings, those of BENCH beside its own
 model --file SEED                    the run file of a seed";
 
@@ -51,6 +52,7 @@ fn run(arguments: &[&str]) -> io::Result<bool> {
         ["--counts", bench, folder, files] => compared(bench, folder, files, true),
         ["--wrong"] => Ok(wrong::run(true)),
         ["--turned-away"] => Ok(wrong::run(false)),
+        ["--first-seeds"] => Ok(wrong::first_seeds()),
         ["--measure", bench, folder] => measure::run(bench.into(), folder.into()),
         ["--file", seed] => file(seed),
         _ => usage(),

@@ -82,17 +82,18 @@ fn whole_rounds(n: u8) -> Option<Driver> {
     Some(driver)
 }
 
-/// Each of the seven events in turn, refused.
+/// Each of the eight events in turn, refused.
 fn all_refused() -> Option<Driver> {
     let driver = opened(3)?;
-    Some(filled(driver, |place| match place % 7 {
+    Some(filled(driver, |place| match place % 8 {
         0 => Event::AdvanceAll { ticks: 0 },
         1 => Event::AdvanceOne { host: 1, ticks: SPREAD + 1 },
         2 => Event::Start { host: 2, duration: 0 },
         3 => Event::Deliver { slot: 0 },
         4 => Event::Lose { slot: 95 },
         5 => Event::Repeat { slot: 96 },
-        _ => Event::Restart { host: 3 },
+        6 => Event::Restart { host: 3 },
+        _ => Event::Release { host: 1 },
     }))
 }
 

@@ -64,6 +64,7 @@ pub enum Body {
     ProposeRequest { owner: u8, end: KeepersEnd },
     ProposeResponse,
     Learn { owner: u8, end: HoldersEnd },
+    ReleaseRequest,
 }
 
 #[derive(Clone, Copy, Debug, PartialEq, Eq)]

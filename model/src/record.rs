@@ -14,6 +14,7 @@ pub const DELIVER: u16 = 104;
 pub const LOSE: u16 = 105;
 pub const REPEAT: u16 = 106;
 pub const RESTART: u16 = 107;
+pub const RELEASE: u16 = 108;
 
 /// Length and kind, two bytes each.
 pub const HEAD: usize = 4;
@@ -35,7 +36,7 @@ pub fn event_length(kind: u16) -> Option<usize> {
     match kind {
         ADVANCE_ALL => Some(8),
         ADVANCE_ONE | START => Some(9),
-        DELIVER | LOSE | REPEAT | RESTART => Some(5),
+        DELIVER | LOSE | REPEAT | RESTART | RELEASE => Some(5),
         _ => None,
     }
 }
@@ -118,7 +119,8 @@ pub fn event(bytes: &[u8], build: Build) -> Result<(Event, u16, usize), Fault> {
         DELIVER => Event::Deliver { slot: first },
         LOSE => Event::Lose { slot: first },
         REPEAT => Event::Repeat { slot: first },
-        _ => Event::Restart { host: first },
+        RESTART => Event::Restart { host: first },
+        _ => Event::Release { host: first },
     };
     Ok((event, kind, length))
 }
@@ -150,5 +152,6 @@ pub fn write_event(bytes: &mut Vec<u8>, event: Event) {
         Event::Lose { slot } => write(bytes, LOSE, &[&[slot]]),
         Event::Repeat { slot } => write(bytes, REPEAT, &[&[slot]]),
         Event::Restart { host } => write(bytes, RESTART, &[&[host]]),
+        Event::Release { host } => write(bytes, RELEASE, &[&[host]]),
     }
 }

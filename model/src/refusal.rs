@@ -18,9 +18,10 @@ pub const SPREAD: u8 = 14;
 pub const CLOCK: u8 = 15;
 pub const LONG: u8 = 16;
 pub const SHORT: u8 = 17;
+pub const NOT_HOLDER: u8 = 18;
 
 /// One more than the highest number, for tables by number.
-pub const NUMBERS: usize = 18;
+pub const NUMBERS: usize = 19;
 
 /// Why a run file stops.
 #[derive(Clone, Copy, Debug, PartialEq, Eq)]

@@ -24,7 +24,7 @@ struct message {
 static inline size_t length_of(uint16_t kind)
 {
     static const uint8_t length[] = {0, PLAIN_LENGTH, PLAIN_LENGTH, LEASE_LENGTH,
-            OWNER_LENGTH, PLAIN_LENGTH, OWNER_LENGTH};
+            OWNER_LENGTH, PLAIN_LENGTH, OWNER_LENGTH, PLAIN_LENGTH};
     return kind < sizeof length ? length[kind] : 0;
 }
 

@@ -2,8 +2,10 @@
 
 use model::cell::{Cell, Event, LAST_TICK, MOST_HOSTS, SLOTS};
 use model::host::{Host, Round};
-use model::message::Body;
-use model::refusal::{CLOCK, DONE, DURATION, FULL, HOST, SAME_TICK, SLOT, SPREAD, WAITING};
+use model::message::{Ballot, Body};
+use model::refusal::{
+    CLOCK, DONE, DURATION, FULL, HOST, NOT_HOLDER, SAME_TICK, SLOT, SPREAD, WAITING,
+};
 
 use crate::delivery::Delivery;
 use crate::words::{ballot, hosts, message, refusal, sentence, slots};
@@ -61,6 +63,7 @@ impl Account<'_> {
                 let wait = format!("and waits until that is {}", wait_end);
                 format!("Host {} forgets everything but its clock, {}, {}.", host, clock, wait)
             }
+            Event::Release { host } => self.released(host),
         }
     }
 
@@ -113,24 +116,28 @@ impl Account<'_> {
     }
 
     fn started(&self, host: u8, duration: u32) -> String {
-        let by = match self.host_after(host).round {
-            Round::Asking { ballot: by, .. } => ballot(by),
-            _ => String::new(),
-        };
+        let asks = format!("asks with ballot {} for {} ticks", self.last_ballot(host), duration);
+        self.sent_to_all(host, &asks, "prepare requests")
+    }
+
+    fn released(&self, host: u8) -> String {
+        let lets_go = format!("lets go of its lease with ballot {}", self.last_ballot(host));
+        self.sent_to_all(host, &lets_go, "release requests")
+    }
+
+    fn last_ballot(&self, host: u8) -> String {
+        let tick = self.host_after(host).last_tick.unwrap_or(0);
+        ballot(Ballot { tick, host })
+    }
+
+    /// What a host does that drops its round and is sent to all.
+    fn sent_to_all(&self, host: u8, does: &str, requests: &str) -> String {
         let dropped = match self.host_before(host).round {
             Round::Idle => "",
             _ => " Its old round is dropped.",
         };
         let to = hosts(&(0..self.after.rules.n).collect::<Vec<u8>>());
-        format!(
-            "Host {} asks with ballot {} for {} ticks: prepare requests to {} in {}.{}",
-            host,
-            by,
-            duration,
-            to,
-            self.placed(),
-            dropped
-        )
+        format!("Host {} {}: {} to {} in {}.{}", host, does, requests, to, self.placed(), dropped)
     }
 
     fn delivered(&self, slot: u8) -> String {
@@ -151,19 +158,25 @@ impl Account<'_> {
                 HOST,
                 Event::AdvanceOne { host, .. }
                 | Event::Start { host, .. }
-                | Event::Restart { host },
+                | Event::Restart { host }
+                | Event::Release { host },
             ) => format!("there is no host {}: they go from 0 to {}", host, rules.n - 1),
-            (WAITING, Event::Start { host, .. }) => {
+            (WAITING, Event::Start { host, .. } | Event::Release { host }) => {
                 let Host { clock, wait_end, .. } = self.host_before(host);
                 format!("host {} waits until its clock, {}, is {}", host, clock, wait_end)
             }
-            (SAME_TICK, Event::Start { host, .. }) => {
+            (SAME_TICK, Event::Start { host, .. } | Event::Release { host }) => {
                 let Host { clock, last_tick, .. } = self.host_before(host);
                 let last = last_tick.unwrap_or(0);
                 format!(
                     "host {}'s clock, {}, is not above its last ballot's tick, {}",
                     host, clock, last
                 )
+            }
+            (NOT_HOLDER, Event::Release { host }) => {
+                let named = self.host_before(host).named;
+                let named = named.map_or("nobody".into(), |named| format!("host {}", named.owner));
+                format!("host {} does not name itself: it names {}", host, named)
             }
             (DURATION, Event::Start { duration, .. }) => {
                 let most = rules.longest - rules.spread;

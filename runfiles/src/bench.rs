@@ -18,12 +18,17 @@ pub const HELP: &str = "  --bench PATH   another bench than the proved one, targ
                    twice    counts a repeated response twice
                    keepers  names a holder up to the keepers' end
                    counter  takes ballots from a counter that restarts at zero
+                   learn    takes a learn of its own lease
+                   round    keeps its round when it lets go
+                   itself   names itself until its own release request comes in
+                   owner    drops a lease at a release request, whoever owns it
                  in the place of the bench alone, a build that
                    length   skips by the length field without comparing it with the kind
 ";
 
 /// The wrong builds by short names, in the model's order.
-const WRONG_NAMES: [&str; WRONG.len()] = ["promise", "twice", "keepers", "counter", "length"];
+const WRONG_NAMES: [&str; WRONG.len()] =
+    ["promise", "twice", "keepers", "counter", "learn", "round", "itself", "owner", "length"];
 
 /// One wrong build.
 #[derive(Clone, Copy)]

@@ -33,9 +33,10 @@ impl Delivery<'_> {
                 let Host { clock, wait_end, .. } = self.before();
                 format!("waits until its clock, {}, is {}, and does nothing", clock, wait_end)
             }
-            Case::PrepareNotAbove | Case::ProposeBelow => {
+            Case::PrepareNotAbove | Case::ProposeBelow | Case::ReleaseBelow => {
                 let promised = self.before().promised.map(ballot).unwrap_or_default();
-                let how = if self.case == Case::ProposeBelow { "is below" } else { "is not above" };
+                let not_above = self.case == Case::PrepareNotAbove;
+                let how = if not_above { "is not above" } else { "is below" };
                 format!("ignores it, which {} its promise {}", how, promised)
             }
             Case::PromisedEmpty | Case::PromisedLease => self.promised(),
@@ -60,11 +61,30 @@ impl Delivery<'_> {
             }
             Case::Accepted => format!("accepts and replies in {}", self.placed()),
             Case::ChosenTooLate | Case::ChosenNamed | Case::ChosenNotHigher => self.chosen(),
+            Case::LearnOwn => "ignores it, which names its own receiver".into(),
             Case::LearnNamed => format!("names {}", holder(self.after().named)),
             Case::LearnNotHigher => {
                 format!("goes on naming {}", not_lower(self.before().named))
             }
+            Case::ReleaseAgain | Case::ReleasePromised | Case::ReleaseDropped => self.let_go(),
         }
+    }
+
+    /// What a release request leaves of lease and name.
+    fn let_go(&self) -> String {
+        let (old, new) = (self.before(), self.after());
+        let promises = if old.promised == new.promised { "has promised" } else { "promises" };
+        let promised = format!("{} {}", promises, ballot(self.handed.ballot));
+        let kept = old.accepted.map(|accepted| match new.accepted {
+            Some(_) => format!("keeps {}", lease(&accepted)),
+            None => format!("drops {}", lease(&accepted)),
+        });
+        let named = old.named.map(|named| match new.named {
+            Some(_) => format!("goes on naming {}", words::holder_by_ballot(&named)),
+            None => format!("no longer names host {}", named.owner),
+        });
+        let told: Vec<String> = [Some(promised), kept, named].into_iter().flatten().collect();
+        told.join("; ")
     }
 
     fn promised(&self) -> String {

@@ -26,6 +26,9 @@ and a DISAGREEMENT is said to be one.
 /// Lines are broken so as to end here.
 const WIDTH: usize = 100;
 
+/// The least width of an answer's word.
+const ANSWER: usize = 9;
+
 /// Between two columns.
 const GAP: &str = "  ";
 
@@ -138,6 +141,7 @@ impl Explanation {
 /// How wide the columns of the events' lines are.
 struct Columns {
     place: usize,
+    answer: usize,
     names: usize,
     event: usize,
 }
@@ -148,6 +152,7 @@ impl Columns {
         let events = explanation.told.iter().filter_map(|told| told.event.as_ref());
         Columns {
             place: rows().map(|row| row.place.len()).max().unwrap_or(0),
+            answer: rows().map(|row| answer(&row).len()).max().unwrap_or(0).max(ANSWER),
             names: rows().map(|row| 2 * row.names.len() - 1).max().unwrap_or(0),
             event: events.map(String::len).max().unwrap_or(0),
         }
@@ -155,22 +160,26 @@ impl Columns {
 
     /// The bench's line with its answer's word, then the event as text and in words.
     fn row(&self, line: &EventLine, event: &str, told: &str) -> String {
-        let answer = line.answer.parse().map_or("?", words::answer);
         let left = format!(
-            "{:>place$} {} {:>2} {:9}{gap}{:names$}{gap}{:event$}",
+            "{:>place$} {} {:>2} {:answer$}{gap}{:names$}{gap}{:event$}",
             line.place,
             line.kind,
             line.answer,
-            answer,
+            answer(line),
             line.names.join(" "),
             event,
             gap = GAP,
             place = self.place,
+            answer = self.answer,
             names = self.names,
             event = self.event
         );
         beside(&left, told)
     }
+}
+
+fn answer(line: &EventLine) -> &'static str {
+    line.answer.parse().map_or("?", words::answer)
 }
 
 /// A text beside what it is about, broken into lines under one another.

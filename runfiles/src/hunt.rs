@@ -11,9 +11,9 @@ use model::coverage::Coverage;
 use model::damage::{damage, DAMAGES};
 use model::host::Case;
 use model::random::Random;
-use model::record::{ADVANCE_ALL, RESTART};
+use model::record::{ADVANCE_ALL, RELEASE, RESTART};
 use model::refusal::DONE;
-use model::{directed, generate};
+use model::{directed, generate, releases};
 
 use crate::arguments::Given;
 use crate::bench::Sides;
@@ -27,10 +27,12 @@ Random runs through the model and the bench, to find a disagreement or two holde
 
 usage: runfile hunt SEED COUNT SETTINGS [--into FOLDER] [--bench PATH | --wrong NAME]
 
-The runs take, renew, lose and pass on leases under losses, repeats, restarts and clocks that stray
-as far as they may; some are damaged files, and some go the ways in which wrong builds come to two
-holders. It ends at the first find, which is made short by dropping events while it still shows, and
-says how many runs, events, leases and restarts it tried.
+The runs take, renew, lose, give back and pass on leases under losses, repeats, restarts and clocks
+that stray as far as they may; some are damaged files, some go the ways in which wrong builds come
+to two holders, and some go through the turns of releases. Two holders are two hosts that name
+themselves and, as long as nobody has let go, any two that are named. It ends at the first find,
+which is made short by dropping events while it still shows, and says how many runs, events, leases,
+restarts and releases it tried.
 
   SEED           a number; the same one gives the same runs
   COUNT          how many runs to try
@@ -38,7 +40,8 @@ says how many runs, events, leases and restarts it tried.
   --into FOLDER  where to write a find; the working folder where it is left out
 ";
 
-/// Of so many runs one is damaged, and one is a way in which a wrong build comes to two holders.
+/// Of so many runs one is damaged, one is a way in which a wrong build comes to two holders, and
+/// one goes through the turns of releases.
 const MIXED: u64 = 20;
 
 /// Between two looks at how far it is, on a terminal and elsewhere.
@@ -168,6 +171,9 @@ impl Hunt {
         if what == 0 {
             return directed::run_in(settings, random.below(WRONG_RULES as u64) as usize, build);
         }
+        if what == 2 {
+            return releases::run_in(settings, random, build);
+        }
         let mut bytes = generate::run_in(settings, Random::new(random.next()), build);
         if what == 1 {
             damage(random.below(DAMAGES), &mut random, &mut bytes);
@@ -232,9 +238,13 @@ fn shown(ours: &[u8], theirs: &[u8]) -> Option<Shown> {
 
 /// What was tried in all runs, in numbers.
 fn tried(coverage: &Coverage) -> String {
-    let restarts = coverage.answers[usize::from(RESTART - ADVANCE_ALL)][usize::from(DONE)];
-    let leases = coverage.cases[Case::ChosenNamed as usize];
-    let counts = [(coverage.events, "event"), (leases, "lease"), (restarts, "restart")];
+    let done = |kind: u16| coverage.answers[usize::from(kind - ADVANCE_ALL)][usize::from(DONE)];
+    let counts = [
+        (coverage.events, "event"),
+        (coverage.cases[Case::ChosenNamed as usize], "lease"),
+        (done(RESTART), "restart"),
+        (done(RELEASE), "release"),
+    ];
     counts.map(|(count, what)| words::counted(count, what)).join(", ")
 }
 

@@ -1,5 +1,8 @@
 //! The lines of a listing, as a bench has written them.
 
+use model::record::RELEASE;
+use model::refusal::DONE;
+
 /// An event's line, taken apart.
 pub struct EventLine<'a> {
     pub place: &'a str,
@@ -21,10 +24,21 @@ impl EventLine<'_> {
     }
 
     /// Whether two hosts name different holders.
-    pub fn has_two_holders(&self) -> bool {
+    fn has_two_names(&self) -> bool {
         let mut named = self.names.iter().filter(|&&name| name != "-");
         let first = named.next();
         named.any(|name| Some(name) != first)
+    }
+
+    /// Whether two hosts name themselves.
+    fn has_two_holders(&self) -> bool {
+        let names_itself = |(host, name): &(usize, &&str)| host.to_string() == **name;
+        self.names.iter().enumerate().filter(names_itself).count() > 1
+    }
+
+    /// Whether a host has let go.
+    fn is_release(&self) -> bool {
+        self.kind == RELEASE.to_string() && self.answer == DONE.to_string()
     }
 }
 
@@ -42,10 +56,17 @@ pub fn of(listing: &[u8]) -> Vec<String> {
     text.split_inclusive('\n').map(line).collect()
 }
 
-/// The event after which two hosts first name different holders; the first line is the settings'.
+/// The event after which there first are two holders; the first line is the settings'. They are two
+/// hosts that name themselves and, as long as nobody has let go, any two that are named.
 pub fn two_holders(lines: &[String]) -> Option<usize> {
-    let has_two = |line: &String| EventLine::of(line).map_or(false, |line| line.has_two_holders());
-    lines.iter().skip(1).position(has_two).map(|before| before + 1)
+    let mut released = false;
+    let mut has_two = |line: &String| {
+        let line = EventLine::of(line)?;
+        released |= line.is_release();
+        Some(line.has_two_holders() || !released && line.has_two_names())
+    };
+    let lines = lines.iter().skip(1);
+    lines.map(|line| has_two(line) == Some(true)).position(|two| two).map(|before| before + 1)
 }
 
 /// The first place at which two listings differ, the settings' line being 0.
@@ -66,6 +87,13 @@ mod tests {
         let listing = "3 100 5 0\n1 104 0 0 - 0\n2 104 0 0 - 2\napplied 2 refused 0\n";
         assert_eq!(two_holders(&lines_of(listing)), Some(2));
         assert_eq!(two_holders(&lines_of("3 100 5 0\n1 104 0 1 1 -\n2 104 0 - - 0\n")), None);
+    }
+
+    #[test]
+    fn after_a_release_they_are_two_hosts_that_name_themselves() {
+        let listing = "3 100 5 0\n1 108 0 - 0 0\n2 104 0 - 1 0\n3 104 0 2 1 2\n";
+        assert_eq!(two_holders(&lines_of(listing)), Some(3));
+        assert_eq!(two_holders(&lines_of("3 100 5 0\n1 108 10 0 0 0\n2 104 0 - 0 1\n")), Some(2));
     }
 
     #[test]

@@ -22,6 +22,7 @@ usage: runfile make [TEXT] [-o RUNFILE]
   lose 1            it is lost
   repeat 1          it is repeated
   restart 2         host 2 restarts
+  release 0         host 0 gives its lease back
   bytes 05 00 68    these bytes, in hexadecimal, whatever record they make
 
 Blank lines are left out, and so is `#` with what follows it. A number has to fit its field of

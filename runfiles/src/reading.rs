@@ -146,7 +146,7 @@ fn why_faulty(rest: &[u8], first: bool, number: u8) -> Why {
                     "100 in the first record; this looks like a run file's text: `make` it first"
                 }
                 true => "100 in the first record",
-                false => "101 to 107",
+                false => "101 to 108",
             };
             Why::Found("the kind field", format!("says {}, expected {}", kind, expected))
         }

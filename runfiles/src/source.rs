@@ -14,7 +14,7 @@ pub enum Line {
 }
 
 /// Each word, and how its line goes on.
-const FORMS: [(&str, &str); 8] = [
+const FORMS: [(&str, &str); 9] = [
     ("cell", "cell HOSTS T S CLOCK"),
     ("advance", "advance TICKS` or `advance HOST by TICKS"),
     ("start", "start HOST for DURATION"),
@@ -22,6 +22,7 @@ const FORMS: [(&str, &str); 8] = [
     ("lose", "lose SLOT"),
     ("repeat", "repeat SLOT"),
     ("restart", "restart HOST"),
+    ("release", "release HOST"),
     ("bytes", "bytes HEX HEX ..."),
 ];
 
@@ -98,7 +99,8 @@ impl Fields<'_> {
             "deliver" => Event::Deliver { slot: self.byte("SLOT")? },
             "lose" => Event::Lose { slot: self.byte("SLOT")? },
             "repeat" => Event::Repeat { slot: self.byte("SLOT")? },
-            _ => Event::Restart { host: self.byte("HOST")? },
+            "restart" => Event::Restart { host: self.byte("HOST")? },
+            _ => Event::Release { host: self.byte("HOST")? },
         })
     }
 
@@ -183,6 +185,7 @@ pub fn event_line(event: Event) -> String {
         Event::Lose { slot } => format!("lose {}", slot),
         Event::Repeat { slot } => format!("repeat {}", slot),
         Event::Restart { host } => format!("restart {}", host),
+        Event::Release { host } => format!("release {}", host),
     }
 }
 
@@ -206,6 +209,7 @@ mod tests {
             Event::Lose { slot },
             Event::Repeat { slot },
             Event::Restart { host },
+            Event::Release { host },
         ];
         for event in events {
             assert_eq!(line(&event_line(event)), Ok(Line::Event(event)));

@@ -90,7 +90,7 @@ impl Moment {
         let host = match self.event? {
             Event::AdvanceAll { .. } | Event::Lose { .. } | Event::Repeat { .. } => None,
             Event::AdvanceOne { host, .. } | Event::Start { host, .. } => Some(host),
-            Event::Restart { host } => Some(host),
+            Event::Restart { host } | Event::Release { host } => Some(host),
             Event::Deliver { .. } => self.about.map(|flight| flights[flight].message.target),
         };
         host.filter(|&host| usize::from(host) < self.hosts.len())

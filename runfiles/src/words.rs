@@ -24,6 +24,7 @@ pub const ANSWERS: [&str; NUMBERS] = [
     "clock",
     "long",
     "short length",
+    "not holder",
 ];
 
 /// The word of an answer; a number that is none has no word.
@@ -141,6 +142,7 @@ pub fn kind(body: &Body) -> &'static str {
         Body::ProposeRequest { .. } => "propose request",
         Body::ProposeResponse => "propose response",
         Body::Learn { .. } => "learn",
+        Body::ReleaseRequest => "release request",
     }
 }
 
@@ -154,7 +156,7 @@ pub fn message(message: &Message) -> String {
             format!(", for host {}, keepers' end {}", owner, end.0)
         }
         Body::Learn { owner, end } => format!(", that host {} holds until {}", owner, end.0),
-        Body::PrepareRequest | Body::ProposeResponse => String::new(),
+        Body::PrepareRequest | Body::ProposeResponse | Body::ReleaseRequest => String::new(),
     };
     format!("{} {} from host {} to host {}{}", kind(body), ballot(*by), sender, target, said)
 }
@@ -177,6 +179,7 @@ mod tests {
         assert_eq!(refusal(model::refusal::WAITING), "9 waiting");
         assert_eq!(refusal(model::refusal::LONG), "16 long");
         assert_eq!(refusal(model::refusal::SHORT), "17 short length");
+        assert_eq!(refusal(model::refusal::NOT_HOLDER), "18 not holder");
         assert_eq!(answer(NUMBERS), "?");
     }
 }

@@ -61,6 +61,7 @@ static const size_t offsets[KINDS][LEASE_FRAME_NUMBERS] = {
     {KIND_OFFSET, 4, 5, 6, 14, 0, 0, 15, 16},
     {KIND_OFFSET, 4, 5, 6, 14},
     {KIND_OFFSET, 4, 5, 6, 14, 0, 0, 15, 16},
+    {KIND_OFFSET, 4, 5, 6, 14},
 };
 
 /* What a call is to answer, and a reading with which offset. */
@@ -350,7 +351,7 @@ static void cuts(const struct sample *sample)
         length_fields(sample, bytes, count);
 }
 
-/* Every kind that is none of the six, at the length of a frame and of its head. */
+/* Every kind that is none of the seven, at the length of a frame and of its head. */
 static void kinds(const struct sample *sample)
 {
     uint64_t numbers[LEASE_FRAME_NUMBERS];

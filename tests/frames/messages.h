@@ -65,7 +65,7 @@ struct sample {
     uint8_t bytes[LEASE_FRAME_LONGEST];
 };
 
-enum { KINDS = 6 };
+enum { KINDS = 7 };
 
 /* Every byte of a tick or an end is another, so that a misplaced one shows. */
 static const struct sample samples[KINDS] = {
@@ -85,6 +85,8 @@ static const struct sample samples[KINDS] = {
     {{6, 8, 0, 0x868584838281, 8, 0, 0, 3, 0x969594939291}, 24,
         {24, 0, 6, 0, 8, 0, 0x81, 0x82, 0x83, 0x84, 0x85, 0x86, 0, 0, 8,
             3, 0x91, 0x92, 0x93, 0x94, 0x95, 0x96, 0, 0}},
+    {{7, 2, 5, 0xB6B5B4B3B2B1, 2, 0, 0, 0, 0}, 15,
+        {15, 0, 7, 0, 2, 5, 0xB1, 0xB2, 0xB3, 0xB4, 0xB5, 0xB6, 0, 0, 2}},
 };
 
 #endif

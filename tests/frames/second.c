@@ -31,6 +31,7 @@ size_t second_length(uint64_t kind)
     case LEASE_FRAME_PROPOSE_REQUEST: return 24;
     case LEASE_FRAME_PROPOSE_RESPONSE: return 15;
     case LEASE_FRAME_LEARN: return 24;
+    case LEASE_FRAME_RELEASE_REQUEST: return 15;
     default: return 0;
     }
 }

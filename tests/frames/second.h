@@ -15,7 +15,7 @@ write_to_call second_write_to;
 /* Whether a frame of this kind carries the number at this place. */
 bool second_carries(uint64_t kind, int place);
 
-/* The length of a frame of this kind, or 0 if it is none of the six. */
+/* The length of a frame of this kind, or 0 if it is none of the seven. */
 size_t second_length(uint64_t kind);
 
 /* Lays out a message of any numbers at all, and gives the frame's length. */

@@ -1,5 +1,5 @@
-"""A drawing held to the listing of its run: who is named when, which events were refused, and where
-messages were delivered, lost and repeated."""
+"""A drawing held to the listing of its run: who is named when, which events were refused, where
+messages were delivered, lost and repeated, and where hosts restarted and let go."""
 
 import re
 import xml.etree.ElementTree as tree
@@ -63,6 +63,13 @@ def arrows(root):
     return {what: sorted(places) for what, places in found.items()}
 
 
+def bars(root, kind):
+    """The events at which bars of a kind stand, which are the middle of the bar."""
+    left, step = numbers(root, "data-left", "data-step")
+    found = root.findall(f".//{SVG}svg//{SVG}rect[@class='{kind}']")
+    return [(int(bar.get("x")) + 2 - left) // step for bar in found]
+
+
 def done(listing, kind):
     """The events of a kind that were done."""
     return [at for at in range(1, listing.last + 1)
@@ -83,6 +90,9 @@ def complaints(path, listing):
     want = {"delivered": done(listing, 104), "lost": done(listing, 105)}
     if arrows(root) != {**want, "copied": done(listing, 106)}:
         found.append("has arrows that end or begin at other events than the listing's")
+    for mark, kind in [("restart", 107), ("release", 108)]:
+        if bars(root, mark) != done(listing, kind):
+            found.append(f"marks a {mark} at other events than the listing's")
     for kind in ["title", "desc"]:
         if not (root.findtext(SVG + kind) or "").strip():
             found.append(f"has no {kind}")

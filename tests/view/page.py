@@ -301,6 +301,22 @@ def shows_the_example(page):
             raise Wrong(f"shows {told} at event {place} of the example, not {hosts, messages}")
 
 
+def shows_a_release(page):
+    """The release in a renewal: what is said of it, what it leaves of its host, what it sends."""
+    place, promise = 24, "(110,0)"
+    accepted = "host 0's lease by (110,0), keepers' end 165"
+    page.press("Home", *["ArrowRight"] * place)
+    shown = page.expect(place, "the arrow keys")
+    if not shown["words"].startswith("Host 0 lets go of its lease with ballot (111,0): "):
+        raise Wrong(f"says '{shown['words']}' of a release")
+    host = ["111", "ended at 105", promise, accepted, "idle; last ballot at 111", "nobody"]
+    if shown["hosts"][0][1:] != host:
+        raise Wrong(f"shows {shown['hosts'][0]} after a release, not {host}")
+    sent = [[f"release request (111,0) from host 0 to host {to}", "24"] for to in range(3)]
+    if [row[1:] for row in shown["slots"][-3:]] != sent:
+        raise Wrong(f"shows {shown['slots']} after a release, and not {sent}")
+
+
 # A run of more events is not walked through.
 MOST_EVENTS = 500
 
@@ -309,7 +325,11 @@ CHECKS = [walks, slides, is_clicked, jumps, has_buttons, is_alone]
 
 # What is the same in every page is looked at in some.
 FORM = [is_tabbed, is_read, has_contrast, is_narrow]
-SPECIAL = {"example": [shows_the_example, *FORM], "answers": FORM}
+SPECIAL = {
+    "example": [shows_the_example, *FORM],
+    "answers": FORM,
+    "release_in_a_renewal": [shows_a_release],
+}
 
 
 def complaints(browser, path, listing):

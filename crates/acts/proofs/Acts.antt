@@ -25,11 +25,13 @@ use Rattle.host.specs.declared.Host.{Host}
 use Rattle.host.specs.declared.Sent.{Sent}
 use Rattle.host.specs.declared.Stepped.{Stepped}
 use Rattle.host.specs.Steps.{hostOk, refusedWith, advanceRefusal, advancedHost, restartedHost}
-use Rattle.host.specs.Steps.{advanceOf, restartOf, startOf, onDelivery}
+use Rattle.host.specs.Steps.{advanceOf, restartOf, onDelivery}
 use Rattle.host.proofs.Refusals.{advance-in}
 use Rattle.host.proofs.HostLimits.{host-in}
 use Rattle.host.proofs.Within.{fine-step, lawful-advance, lawful-restart, lawful-start}
-use Rattle.host.proofs.Outcomes.{begins, gets, stays-step}
+use Rattle.host.proofs.Within.{lawful-release}
+use Rattle.host.specs.Claims.{Lawful}
+use Rattle.host.proofs.Outcomes.{Cause, begins, letsGo, gets, stepOn, stays-step}
 use Rattle.places.specs.Places.{blankHost, eachHost}
 use Rattle.places.specs.Parts.{clockWith}
 use Rattle.places.proofs.PlaceLimits.{clockAt}
@@ -44,7 +46,7 @@ use Rattle.slots.proofs.Laws.{gained-counts}
 use Rattle.cell.specs.declared.Cell.{Cell}
 use Rattle.cell.specs.declared.Event.{Event}
 use Rattle.cell.specs.declared.Event.the-variants.{AdvanceAll, AdvanceOne, Start, Deliver, Lose}
-use Rattle.cell.specs.declared.Event.the-variants.{Repeat, Restart}
+use Rattle.cell.specs.declared.Event.the-variants.{Repeat, Restart, Release}
 use Rattle.cell.specs.CellLimits.{hostAt, withHost, contentAt, clocksNear, cellOk}
 use Rattle.cell.specs.Events.{answeredWith, answerWith, hostRefusal, sentTo, stepFull, stepped}
 use Rattle.cell.specs.Events.{messagesIn, hostsRefusal, advanceAllRefusal, advancedAll, deliverFull}
@@ -112,6 +114,8 @@ about (Deliver i) = refl
 about (Lose i) = refl
 about (Repeat i) = refl
 about (Restart h) =
+    record { one = refl; slot-is = refl; host-is = λ t. refl; change-is = λ s x t. refl }
+about (Release h) =
     record { one = refl; slot-is = refl; host-is = λ t. refl; change-is = λ s x t. refl }
 
 is-all : (e : Event) → actOf e ≡ Act.All → e ≡ AdvanceAll (ticksOf e)
@@ -191,6 +195,7 @@ movedBy c (Deliver i) = c .hosts
 movedBy c (Lose i) = c .hosts
 movedBy c (Repeat i) = c .hosts
 movedBy c (Restart h) = c .hosts
+movedBy c (Release h) = c .hosts
 
 -- an advance by more than the last tick moves none
 unfoldable pub movedHosts : Cell → Event → List Host
@@ -264,6 +269,7 @@ module _ (c : Cell) (z : Sized c) (o : cellOk c ≡ true) (empty : ℕ) (m : emp
     moved-clock (Lose i) g b = refl
     moved-clock (Repeat i) g b = refl
     moved-clock (Restart h) g b = refl
+    moved-clock (Release h) g b = refl
 
     pub clock-is : (e : Event) (g : ℕ) → g < c .settings .n
         → clockAt (movedHosts c e) g ≡ clockAfter e g (clockAt (c .hosts) g)
@@ -417,6 +423,15 @@ module _ (c : Cell) (z : Sized c) (o : cellOk c ≡ true) (empty : ℕ) (m : emp
     host-fits number =
         cell-in c z o .host (placeOf (c .settings .n) number) (place-in number)
 
+    -- a host's own step leaves its clock, and so the clocks near
+    own-near : (h : ℕ) (cause : Cause) (k : ℕ) (result : Stepped)
+        → Lawful (c .settings) (hostAt c h) k (stepOn (c .settings) (hostAt c h) cause) result
+        → result .answer ≡ done → true ≡ clocksNear (withHost c h (result .host))
+    own-near h cause k result l q =
+        sym (still-clocks c z o h (result .host)
+        (ap (λ (y : Stepped). y .host .clock) (l .carried-out (sym (l .number) ∙ q))
+        ∙ stays-step (c .settings) (hostAt c h) cause .clock))
+
     -- the clocks that are found near are near with the host's step in its place
     near-at : (e : Event) (g low high : ℕ) → watchedBy e (c .settings .n) ≤ g → g ≤ c .settings .n
         → Span (movedHosts c e) (c .settings .n) g low high
@@ -440,12 +455,7 @@ module _ (c : Cell) (z : Sized c) (o : cellOk c ≡ true) (empty : ℕ) (m : emp
         ∙ ap (λ (y : Stepped). clocksNear (withHost c h (y .host)))
         (sym (lawful-advance s x d .carried-out r))
     near-at (Start h d) g low high b w p q =
-        let s = c .settings in
-        let x = hostAt c h in
-        let r = sym (lawful-start s x d .number) ∙ q in
-        sym (still-clocks c z o h (startOf s x d .host)
-        (ap (λ (y : Stepped). y .host .clock) (lawful-start s x d .carried-out r)
-        ∙ stays-step s x (begins d) .clock))
+        own-near h (begins d) _ _ (lawful-start (c .settings) (hostAt c h) d) q
     near-at (Deliver i) g low high b w p q = sym (still-clocks c z o 0 (hostAt c 0) refl)
     near-at (Lose i) g low high b w p q = sym (still-clocks c z o 0 (hostAt c 0) refl)
     near-at (Repeat i) g low high b w p q = sym (still-clocks c z o 0 (hostAt c 0) refl)
@@ -455,6 +465,8 @@ module _ (c : Cell) (z : Sized c) (o : cellOk c ≡ true) (empty : ℕ) (m : emp
         let r = sym (lawful-restart s x .number) ∙ q in
         sym (still-clocks c z o h (restartOf s x .host)
         (ap (λ (y : Stepped). y .host .clock) (lawful-restart s x .carried-out r)))
+    near-at (Release h) g low high b w p q =
+        own-near h letsGo _ _ (lawful-release (c .settings) (hostAt c h)) q
 
     -- the refusals after the host's number, of a step at host h
     own-refusals : (h : ℕ) (act : Stepped) (near : Bool)

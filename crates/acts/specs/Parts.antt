@@ -15,7 +15,7 @@ use Rattle.host.specs.declared.Sent.{Sent}
 use Rattle.host.specs.declared.Stepped.{Stepped}
 use Rattle.host.specs.Parts.{Handed}
 use Rattle.host.specs.Steps.{refusedWith, quietWith, stepWith, advanceOf, restartOf, startOf}
-use Rattle.host.specs.Steps.{onDelivery}
+use Rattle.host.specs.Steps.{releaseOf, onDelivery}
 use Rattle.places.specs.Parts.{clockWith}
 use Rattle.slots.specs.declared.Slot.{Slot}
 use Rattle.slots.specs.declared.Content.{Content}
@@ -23,7 +23,7 @@ use Rattle.slots.specs.Slots.{slotCount, isEmpty}
 use Rattle.slots.specs.Parts.{slotAfter}
 use Rattle.cell.specs.declared.Event.{Event}
 use Rattle.cell.specs.declared.Event.the-variants.{AdvanceAll, AdvanceOne, Start, Deliver, Lose}
-use Rattle.cell.specs.declared.Event.the-variants.{Repeat, Restart}
+use Rattle.cell.specs.declared.Event.the-variants.{Repeat, Restart, Release}
 use Rattle.cell.specs.Events.{messagesIn}
 use Rattle.acts.specs.declared.Act.{Act}
 use Rattle.change.specs.Parts.{ticksOf}
@@ -36,6 +36,7 @@ actOf (Deliver i) = Act.Deliver i
 actOf (Lose i) = Act.Lose i
 actOf (Repeat i) = Act.Repeat i
 actOf (Restart h) = Act.Host h
+actOf (Release h) = Act.Host h
 
 -- ---- clocks
 
@@ -47,6 +48,7 @@ watchedBy (Deliver i) n = 0
 watchedBy (Lose i) n = 0
 watchedBy (Repeat i) n = 0
 watchedBy (Restart h) n = 0
+watchedBy (Release h) n = 0
 
 -- the clock at place g after an event that is not refused for its ticks
 abbrev pub clockBy : Event → ℕ → ℕ → ℕ
@@ -57,6 +59,7 @@ clockBy (Deliver i) g clock = clock
 clockBy (Lose i) g clock = clock
 clockBy (Repeat i) g clock = clock
 clockBy (Restart h) g clock = clock
+clockBy (Release h) g clock = clock
 
 unfoldable pub clockAfter : Event → ℕ → ℕ → ℕ
 clockAfter e g clock = cond (leb (ticksOf e) lastTick) (clockBy e g clock) clock
@@ -88,6 +91,7 @@ hostAct s (Deliver i) h = quietWith h
 hostAct s (Lose i) h = quietWith h
 hostAct s (Repeat i) h = quietWith h
 hostAct s (Restart k) h = restartOf s h
+hostAct s (Release k) h = releaseOf s h
 
 unfoldable pub nearBy : Settings → Event → ℕ → ℕ → Bool
 nearBy s (AdvanceAll d) low high = true
@@ -97,6 +101,7 @@ nearBy s (Deliver i) low high = true
 nearBy s (Lose i) low high = true
 nearBy s (Repeat i) low high = true
 nearBy s (Restart h) low high = true
+nearBy s (Release h) low high = true
 
 -- 13, with so many empty slots
 abbrev pub roomRefusal : Stepped → ℕ → ℕ

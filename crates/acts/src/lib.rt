@@ -52,6 +52,7 @@ pub fn act_of(e: Event) -> Act
         Event::Lose(slot) => Act::Lose(slot),
         Event::Repeat(slot) => Act::Repeat(slot),
         Event::Restart(host) => Act::Host(host),
+        Event::Release(host) => Act::Host(host),
     }
 }
 
@@ -67,6 +68,7 @@ pub fn watched_by(e: Event, n: usize) -> usize
         Event::Lose(_) => 0,
         Event::Repeat(_) => 0,
         Event::Restart(_) => 0,
+        Event::Release(_) => 0,
     }
 }
 
@@ -87,6 +89,7 @@ pub fn clock_after(e: Event, g: usize, clock: u64) -> u64
         Event::Lose(_) => clock,
         Event::Repeat(_) => clock,
         Event::Restart(_) => clock,
+        Event::Release(_) => clock,
     }
 }
 
@@ -148,6 +151,7 @@ fn host_act(s: Settings, e: Event, h: Host) -> Stepped
         Event::Lose(_) => host::quiet_with(h),
         Event::Repeat(_) => host::quiet_with(h),
         Event::Restart(_) => h.restart(s),
+        Event::Release(_) => h.release(s),
     }
 }
 
@@ -164,6 +168,7 @@ fn near_by(s: Settings, e: Event, low: u64, high: u64) -> bool
         Event::Lose(_) => true,
         Event::Repeat(_) => true,
         Event::Restart(_) => true,
+        Event::Release(_) => true,
     }
 }
 

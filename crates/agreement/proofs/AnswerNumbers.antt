@@ -8,28 +8,28 @@ use lib.Dec.{ltb, leb, eqb}
 use borrow.Author.Tests.{ltb-true, eqb-false}
 use Rattle.base.specs.Refusals.{done, unless, firstOf, refusedCell, refusedHost, refusedWaiting}
 use Rattle.base.specs.Refusals.{refusedSameTick, refusedDuration, refusedSlot, refusedFull}
-use Rattle.base.specs.Refusals.{refusedSpread, refusedClock}
+use Rattle.base.specs.Refusals.{refusedSpread, refusedClock, refusedNotHolder}
 use Rattle.base.specs.Lists.{All}
 use Rattle.base.proofs.Tests.{first-of, unless-of, none-of, last-of, held, next}
 use Rattle.message.specs.Message.{lastTick}
-use Rattle.rules.specs.Rules.{isWaiting, isFresh}
+use Rattle.rules.specs.Rules.{isWaiting, isFresh, namesItself}
 use Rattle.state.specs.declared.Settings.{Settings}
 use Rattle.state.specs.StateLimits.{durationOk}
 use Rattle.host.specs.declared.Host.{Host}
 use Rattle.host.specs.declared.Stepped.{Stepped}
-use Rattle.host.specs.Steps.{hostOk, advanceRefusal, restartRefusal, startRefusal}
+use Rattle.host.specs.Steps.{hostOk, advanceRefusal, restartRefusal, startRefusal, releaseRefusal}
 use Rattle.slots.specs.declared.Slot.{Slot}
 use Rattle.slots.specs.declared.Content.{Content}
 use Rattle.slots.specs.Slots.{slotCount, isEmpty, slotRefusal, empties, freed}
 use Rattle.cell.specs.declared.Cell.{Cell}
 use Rattle.cell.specs.declared.Event.{Event}
 use Rattle.cell.specs.declared.Event.the-variants.{AdvanceAll, AdvanceOne, Start, Deliver, Lose}
-use Rattle.cell.specs.declared.Event.the-variants.{Repeat, Restart}
+use Rattle.cell.specs.declared.Event.the-variants.{Repeat, Restart, Release}
 use Rattle.cell.specs.CellLimits.{hostAt, contentAt, clocksNear, cellOk}
 use Rattle.cell.specs.Events.{messagesIn, stepFull, advanceAllRefusal, advancedOne}
-use Rattle.cell.specs.Events.{advanceOneRefusal, startStep, startAtRefusal, deliverStep}
-use Rattle.cell.specs.Events.{deliverFull, deliverRefusal, loseRefusal, repeatRefusal}
-use Rattle.cell.specs.Events.{restartAtRefusal, refusalOf, eventOf}
+use Rattle.cell.specs.Events.{advanceOneRefusal, stepAtRefusal, startStep, startAtRefusal}
+use Rattle.cell.specs.Events.{deliverStep, deliverFull, deliverRefusal, loseRefusal, repeatRefusal}
+use Rattle.cell.specs.Events.{restartAtRefusal, releaseStep, releaseAtRefusal, refusalOf, eventOf}
 use Rattle.cell.specs.Claims.{Sized}
 use Rattle.cell.proofs.Hosts.{by-advances}
 use Rattle.cell.proofs.CellLimits.{cell-in}
@@ -57,6 +57,16 @@ start-number P s h d e z w l t =
     next P (durationOk s d) refusedDuration _ refl l
     (λ _.
     next P (isFresh (h .state .last) (h .clock)) refusedSameTick [] refl t (λ _. none-of P z)))))
+
+release-number : (P : ℕ → Type 0) (s : Settings) (h : Host) → hostOk s h ≡ true → P done
+    → P refusedWaiting → P refusedNotHolder → P refusedSameTick → P (releaseRefusal s h)
+unfolding releaseRefusal
+release-number P s h e z w n t =
+    held P (hostOk s h) refusedCell _ e
+    (next P (not (isWaiting (h .clock) (h .wait))) refusedWaiting _ refl w
+    (λ _. next P (namesItself (h .number) (h .state .named)) refusedNotHolder _ refl n
+    (λ _.
+    next P (isFresh (h .state .last) (h .clock)) refusedSameTick [] refl t (λ _. none-of P z))))
 
 restart-number : (P : ℕ → Type 0) (s : Settings) (h : Host) → hostOk s h ≡ true → P done
     → P (restartRefusal s h)
@@ -93,10 +103,18 @@ at-slot P c i ks o p q =
     held P (cellOk c) refusedCell _ o
     (next P (ltb i slotCount && not (isEmpty (contentAt c i))) refusedSlot ks refl p (λ _. q))
 
+-- what a host's own step is refused by: 5, then by k, then 13
+step-number : (P : ℕ → Type 0) (c : Cell) (h k : ℕ) (step : Stepped) → Sized c → cellOk c ≡ true
+    → P done → P refusedHost → P refusedFull → (hostOk (c .settings) (hostAt c h) ≡ true → P k)
+    → P (stepAtRefusal c h k step)
+step-number P c h k step z o d p l f =
+    at-host P c h _ z o p
+    (λ g. first-of P k _ (f g) (λ _. last-of P _ (step-full P (c .slots) step d l)))
+
 refusal-number : (P : ℕ → Type 0) (c : Cell) (e : Event) → Sized c → cellOk c ≡ true
     → All P (done ∷ orderOf e) → P (refusalOf c e)
 unfolding All orderOf refusalOf advanceAllRefusal advanceOneRefusal startAtRefusal deliverRefusal
-    loseRefusal repeatRefusal restartAtRefusal
+    loseRefusal repeatRefusal restartAtRefusal releaseAtRefusal
 refusal-number P c (AdvanceAll d) z o p =
     held P (cellOk c) refusedCell _ o
     (last-of P _
@@ -112,12 +130,10 @@ refusal-number P c (AdvanceOne h d) z o p =
     last-of P _
     (unless-of P (clocksNear (advancedOne c h d)) refusedSpread (p .0) (p .1 .1 .1 .0))))
 refusal-number P c (Start h d) z o p =
-    at-host P c h _ z o (p .1 .0)
+    let q = p .1 .1 in
+    step-number P c h _ (startStep c h d) z o (p .0) (p .1 .0) (q .1 .1 .1 .0)
     (λ f.
-    first-of P (startRefusal (c .settings) (hostAt c h) d) _
-    (start-number P (c .settings) (hostAt c h) d f (p .0) (p .1 .1 .0) (p .1 .1 .1 .0)
-    (p .1 .1 .1 .1 .0))
-    (λ _. last-of P _ (step-full P (c .slots) (startStep c h d) (p .0) (p .1 .1 .1 .1 .1 .0))))
+    start-number P (c .settings) (hostAt c h) d f (p .0) (q .0) (q .1 .0) (q .1 .1 .0))
 refusal-number P c (Deliver i) z o p =
     at-slot P c i _ o (p .1 .0)
     (last-of P _ (deliver-full P c i (contentAt c i) (p .0) (p .1 .1 .0)))
@@ -128,6 +144,10 @@ refusal-number P c (Repeat i) z o p =
 refusal-number P c (Restart h) z o p =
     at-host P c h _ z o (p .1 .0)
     (λ f. last-of P _ (restart-number P (c .settings) (hostAt c h) f (p .0)))
+refusal-number P c (Release h) z o p =
+    let q = p .1 .1 in
+    step-number P c h _ (releaseStep c h) z o (p .0) (p .1 .0) (q .1 .1 .1 .0)
+    (λ f. release-number P (c .settings) (hostAt c h) f (p .0) (q .0) (q .1 .0) (q .1 .1 .0))
 
 -- ---- any event
 
@@ -159,6 +179,7 @@ not-one (Deliver i) = (refl, (refl, (refl, tt)))
 not-one (Lose i) = (refl, (refl, tt))
 not-one (Repeat i) = (refl, (refl, (refl, tt)))
 not-one (Restart h) = (refl, (refl, tt))
+not-one (Release h) = (refl, (refl, (refl, (refl, (refl, (refl, tt))))))
 
 pub never-cell : (c : Cell) (e : Event) → Sized c → cellOk c ≡ true
     → eventOf c e .answer ≡ refusedCell → ⊥

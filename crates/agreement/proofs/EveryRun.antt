@@ -1,4 +1,5 @@
--- Every run keeps its limits, its numbers and its clocks. Assumes nothing.
+-- Every run keeps its limits, its numbers and its clocks, and each name has its source. Assumes
+-- nothing.
 use mathlib.Core.Path.{_≡_, refl, _∙_}
 use mathlib.Core.List.{List, [], _∷_}
 use Rattle.rules.proofs.Laws.{acts-first}
@@ -13,6 +14,7 @@ use Rattle.cell.proofs.StaysWithin.{opening-in, kept-run}
 use Rattle.agreement.proofs.AnswerNumbers.{own-number, never-cell}
 use Rattle.agreement.proofs.Clocks.{clock-rises-run}
 use Rattle.agreement.proofs.Rounds.{opening-undecided, undecided-run}
+use Rattle.agreement.proofs.Sources.{sourced}
 
 settings-run : (c : Cell) (events : List Event) → run c events .settings ≡ c .settings
 unfolding run
@@ -35,4 +37,5 @@ every-run s clock events =
       near = cell-in c (kept .0) (kept .1) .near;
       undecided = open-rounds;
       reaches = λ h after. acts-first (c .settings .n) (repliedAt c h) after (open-rounds h);
+      learned = sourced c kept;
     }

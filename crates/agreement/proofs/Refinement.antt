@@ -16,18 +16,16 @@ use Rattle.base.proofs.Tests.{first-passed, unless-passed}
 use Rattle.message.specs.declared.Message.{Message}
 use Rattle.message.specs.Message.{targetOf}
 use Rattle.message.proofs.Laws.{target-in}
-use Rattle.rules.specs.declared.Accepted.{Accepted}
 use Rattle.rules.specs.declared.Named.{Named}
-use Rattle.rules.proofs.Laws.{wait-is, LeaseAged, empty, over, live, lease-aged, HolderAged, nobody}
-use Rattle.rules.proofs.Laws.{dropped, stays, holder-aged}
+use Rattle.rules.proofs.Laws.{wait-is, lease-aged, HolderAged, nobody, dropped, stays, holder-aged}
 use Rattle.state.specs.declared.Settings.{Settings}
 use Rattle.state.specs.Ageing.{agedAt}
 use Rattle.state.specs.StateLimits.{settingsOk, sizesOf}
 use Rattle.host.specs.declared.Host.{Host}
 use Rattle.host.specs.declared.Stepped.{Stepped}
 use Rattle.host.proofs.HostLimits.{host-in}
-use Rattle.host.proofs.Outcomes.{begins, gets}
-use Rattle.host.specs.Steps.{quietWith, advanceRefusal, advancedHost, restartedHost, startRefusal}
+use Rattle.host.proofs.Outcomes.{Cause, begins, letsGo, gets, stepOn}
+use Rattle.host.specs.Steps.{quietWith, advanceRefusal, advancedHost, restartedHost}
 use Rattle.state.proofs.StateLimits.{SettingsIn, settings-in}
 use Rattle.places.specs.Places.{unwaited, newHost}
 use Rattle.slots.specs.declared.Content.{Content}
@@ -38,25 +36,26 @@ use Rattle.slots.proofs.Laws.{Sendable}
 use Rattle.cell.specs.declared.Cell.{Cell}
 use Rattle.cell.specs.declared.Event.{Event}
 use Rattle.cell.specs.declared.Event.the-variants.{AdvanceAll, AdvanceOne, Start, Deliver, Lose}
-use Rattle.cell.specs.declared.Event.the-variants.{Repeat, Restart}
+use Rattle.cell.specs.declared.Event.the-variants.{Repeat, Restart, Release}
 use Rattle.cell.specs.declared.Answered.{Answered}
 use Rattle.cell.specs.CellLimits.{hostAt, withHost, contentAt, clocksNear}
 use Rattle.cell.specs.Events.{cellOf, withSlots, sentTo, stepped, openedWith, advancedAll}
-use Rattle.cell.specs.Events.{advancedOne, advanceOneRefusal, startStep, startAtRefusal}
-use Rattle.cell.specs.Events.{deliverStep, delivered, repeated, restartAtRefusal, refusalOf}
-use Rattle.cell.specs.Events.{afterOf, eventOf}
+use Rattle.cell.specs.Events.{advancedOne, advanceOneRefusal, stepAtRefusal, startAtRefusal}
+use Rattle.cell.specs.Events.{deliverStep, delivered, repeated, restartAtRefusal, releaseAtRefusal}
+use Rattle.cell.specs.Events.{refusalOf, afterOf, eventOf}
 use Rattle.cell.specs.Runs.{opening, run}
 use Rattle.cell.specs.Claims.{Sized, Sound}
 use Rattle.cell.proofs.Hosts.{sized-host, host-same, host-other, by-host, all-below, near-in}
 use Rattle.cell.proofs.CellLimits.{CellIn, cell-in}
-use Rattle.cell.proofs.Events.{by-outcome, holds-sent}
+use Rattle.cell.proofs.Events.{by-outcome, answer-is, holds-sent}
 use Rattle.theory.specs.Ballots as N
 use Rattle.theory.specs.Model as M
 use Rattle.theory.specs.Model.{World, Aged, aged, age, Reach, here, then}
 use Rattle.theory.proofs.Ballots.{le-or-lt}
-use Rattle.agreement.proofs.Translation.{asLease, asHolder, asMessage, message-to, setup}
-use Rattle.agreement.proofs.Translation.{asHost, Stands, Acted, reach-then}
-use Rattle.agreement.proofs.HostActs.{acts-restart, acts-step}
+use Rattle.agreement.specs.Demand3.{NoRelease, NoReleases}
+use Rattle.agreement.proofs.Translation.{lease-left, asHolder, asMessage, message-to, setup}
+use Rattle.agreement.proofs.Translation.{asHost, Stands, NoneNew, reach-then, Acted}
+use Rattle.agreement.proofs.HostActs.{Caused, acts-restart, acts-step}
 use Rattle.cell.proofs.StaysWithin.{host-passed, by-opening, opened-at, kept-event}
 
 -- the message is sent in w
@@ -71,21 +70,23 @@ pub record Explained (s : Settings) (c : Cell) (w : World (setup s)) : Type 0 wh
   pub beyond : (h : ℕ) → s .n ≤ h → w .clock h ≡ w .clock 0
   pub messages : Holds (SentIn w) (c .slots)
 
--- from w the theory comes to what the cell c is
-pub record Next (s : Settings) (w : World (setup s)) (c : Cell) : Type 0 where
+-- from w the theory comes to what the cell c is, where Calm is supposed with no new release
+pub record Next (s : Settings) (Calm : Type 0) (w : World (setup s)) (c : Cell) : Type 0 where
   pub now : World (setup s)
   pub reach : Reach w now
   pub explained : Explained s c now
+  pub calm : Calm → NoneNew s w now
 
 -- ---- a host's step
 
-module _ {s : Settings} {c : Cell} {w : World (setup s)} (x : Explained s c w) where
-  stayed : Next s w c
-  stayed = record { now = w; reach = here; explained = x }
+module _ {s : Settings} {Calm : Type 0} {c : Cell} {w : World (setup s)}
+    (x : Explained s c w) where
+  stayed : Next s Calm w c
+  stayed = record { now = w; reach = here; explained = x; calm = λ _ r q. q }
 
   -- a host has taken a step that the theory takes for its own: so has the cell
   pub explained-step : (h : ℕ) → h < 9 → Sized c → (ss : List Slot) → Holds (SentIn w) ss
-      → (t : Stepped) → Acted s w h t → Next s w (stepped c h ss t)
+      → (t : Stepped) → Acted s Calm w h t → Next s Calm w (stepped c h ss t)
   unfolding stepped
   explained-step h few z ss q t a = record {
     now = a .now;
@@ -99,6 +100,7 @@ module _ {s : Settings} {c : Cell} {w : World (setup s)} (x : Explained s c w) w
           (holds-map (SentIn w) (SentIn (a .now)) ss (λ m. a .kept (asMessage m)) q)
           (λ m k e _. rw (message-to m k) (rw e at (a .sent)));
     };
+    calm = a .calm;
   }
     where
       stands : (k : ℕ) → k < s .n → Dec (k ≡ h)
@@ -130,12 +132,6 @@ older-same s h = record {
       };
 }
 
-older-lease : {clock : ℕ} {a b : Accepted} → LeaseAged clock a b
-    → M.AgedLease clock (asLease a) (asLease b)
-older-lease empty = inl refl
-older-lease (over l t) = inr (refl, _, refl, t)
-older-lease (live l t) = inl refl
-
 older-holder : {clock : ℕ} {m k : Named} → HolderAged clock m k → (before : ℕ) (n : N.Holder)
     → asHolder k ≡ some n → (asHolder m ≡ some n) × ((clock ≡ before) ⊎ (clock < n .end))
 older-holder nobody before n q = absurd (Option·none-ne-some n q)
@@ -151,7 +147,8 @@ older-advanced s h d = record {
     same-promised = refl;
     same-last = refl;
     same-round = refl;
-    accepted-aged = older-lease (lease-aged (h .clock + d) (h .state .accepted));
+    accepted-aged = lease-left (λ l. M.Expired l (h .clock + d)) (λ l _ t. t)
+        (lease-aged (h .clock + d) (h .state .accepted));
     named-aged = older-holder (holder-aged (h .clock + d) (h .state .named)) (h .clock);
   };
 }
@@ -170,10 +167,11 @@ module _ {s : Settings} {c : Cell} {w : World (setup s)} (x : Explained s c w) w
 
   -- the cell's hosts are older: so is the world. What other numbers name is dropped, and their
   -- clocks follow host 0's.
-  pub explained-age : 1 ≤ s .n → (d : Cell) → d .settings ≡ c .settings → d .slots ≡ c .slots
+  pub explained-age : {Calm : Type 0} → 1 ≤ s .n → (d : Cell) → d .settings ≡ c .settings
+      → d .slots ≡ c .slots
       → ((h : ℕ) → h < s .n → Older s (hostAt c h) (hostAt d h))
       → ((h k : ℕ) → h < s .n → k < s .n → hostAt d h .clock ≤ hostAt d k .clock + s .spread)
-      → Next s w d
+      → Next s Calm w d
   explained-age first d same-settings same-slots older near = record {
     now = aged w clock host;
     reach =
@@ -189,6 +187,7 @@ module _ {s : Settings} {c : Cell} {w : World (setup s)} (x : Explained s c w) w
           beyond = λ h i. clock-out h i ∙ sym (clock-in 0 first);
           messages = rw same-slots (x .messages);
         };
+    calm = λ _ r q. q;
   }
     where
       clock : ℕ → ℕ
@@ -240,8 +239,8 @@ module _ {s : Settings} {c : Cell} {w : World (setup s)} (x : Explained s c w) w
 
 -- ---- the events
 
-module _ {c : Cell} {w : World (setup (c .settings))} (x : Explained (c .settings) c w)
-    (z : Sized c) (i : CellIn c) where
+module _ (Calm : Type 0) {c : Cell} {w : World (setup (c .settings))}
+    (x : Explained (c .settings) c w) (z : Sized c) (i : CellIn c) where
   -- a host under its own number
   stands : (h : ℕ) → h < c .settings .n → Stands (c .settings) w (hostAt c h .number) (hostAt c h)
   stands h b =
@@ -252,13 +251,13 @@ module _ {c : Cell} {w : World (setup (c .settings))} (x : Explained (c .setting
 
   -- a host has taken a step under its own number
   after-step : (h : ℕ) → h < c .settings .n → (ss : List Slot) → Holds (SentIn w) ss → (t : Stepped)
-      → Acted (c .settings) w (hostAt c h .number) t
-      → Next (c .settings) w (stepped c h ss t)
+      → Acted (c .settings) Calm w (hostAt c h .number) t
+      → Next (c .settings) Calm w (stepped c h ss t)
   after-step h b ss q t a =
       explained-step x h (omega (arith, b, numbers .few)) z ss q t
-      (subst (λ k. Acted (c .settings) w k t) (i .number h b) a)
+      (subst (λ k. Acted (c .settings) Calm w k t) (i .number h b) a)
 
-  after-advance-all : (d : ℕ) → Next (c .settings) w (advancedAll c d)
+  after-advance-all : (d : ℕ) → Next (c .settings) Calm w (advancedAll c d)
   unfolding advancedAll advancedHost
   after-advance-all d =
       explained-age x (numbers .some) (advancedAll c d) refl refl
@@ -269,7 +268,7 @@ module _ {c : Cell} {w : World (setup (c .settings))} (x : Explained (c .setting
       at h b = all-below c d z (numbers .few) h b
 
   after-advance-one : (h d : ℕ) → advanceOneRefusal c h d ≡ done
-      → Next (c .settings) w (advancedOne c h d)
+      → Next (c .settings) Calm w (advancedOne c h d)
   unfolding advanceOneRefusal advancedOne
   after-advance-one h d e =
       let p1 = host-passed c h _ e in
@@ -285,17 +284,20 @@ module _ {c : Cell} {w : World (setup (c .settings))} (x : Explained (c .setting
       later : Host
       later = advancedHost (hostAt c h) d
 
-  after-start : (h d : ℕ) → startAtRefusal c h d ≡ done
-      → Next (c .settings) w (stepped c h (c .slots) (startStep c h d))
-  unfolding startAtRefusal
-  after-start h d e =
+  -- a host's own step that nothing refuses by k or for its place or its room
+  after-step-at : (h k : ℕ) (cause : Cause)
+      → let step = stepOn (c .settings) (hostAt c h) cause in
+      (k ≡ done → Caused (c .settings) Calm (hostAt c h) w cause)
+      → stepAtRefusal c h k step ≡ done → Next (c .settings) Calm w (stepped c h (c .slots) step)
+  after-step-at h k cause f e =
       let p1 = host-passed c h _ e in
-      let p2 = first-passed (startRefusal (c .settings) (hostAt c h) d) _ (p1 .1) in
-      after-step h (p1 .0) (c .slots) (x .messages) (startStep c h d)
-      (acts-step (c .settings) (hostAt c h) (stands h (p1 .0)) (begins d)
-      (host-in (c .settings) (hostAt c h) (i .host h (p1 .0))) (p2 .0))
+      let p2 = first-passed k _ (p1 .1) in
+      after-step h (p1 .0) (c .slots) (x .messages) (stepOn (c .settings) (hostAt c h) cause)
+      (acts-step (c .settings) Calm (hostAt c h) (stands h (p1 .0)) cause
+      (host-in (c .settings) (hostAt c h) (i .host h (p1 .0))) (f (p2 .0)))
 
-  after-deliver : (k : ℕ) (t : Content) → contentAt c k ≡ t → Next (c .settings) w (delivered c k t)
+  after-deliver : (k : ℕ) (t : Content) → contentAt c k ≡ t
+      → Next (c .settings) Calm w (delivered c k t)
   unfolding delivered
   after-deliver k Content.Empty e = stayed x
   after-deliver k (Content.One m) e =
@@ -304,16 +306,17 @@ module _ {c : Cell} {w : World (setup (c .settings))} (x : Explained (c .setting
       let b = target-in (sizesOf (c .settings)) m f in
       after-step h b (freed (c .slots) k) (holds-freed (SentIn w) (c .slots) k (x .messages))
       (deliverStep c m)
-      (acts-step (c .settings) (hostAt c h) (stands h b) (gets m)
+      (acts-step (c .settings) Calm (hostAt c h) (stands h b) (gets m)
       (host-in (c .settings) (hostAt c h) (i .host h b))
       (f, holds-at (SentIn w) (c .slots) k m (x .messages) e))
 
   -- the slots may change as long as each message under way was sent
-  after-slots : (ss : List Slot) → Holds (SentIn w) ss → Next (c .settings) w (withSlots c ss)
+  after-slots : (ss : List Slot) → Holds (SentIn w) ss → Next (c .settings) Calm w (withSlots c ss)
   after-slots ss q =
       stayed (record { settings = refl; host = x .host; beyond = x .beyond; messages = q })
 
-  after-repeat : (k : ℕ) (t : Content) → contentAt c k ≡ t → Next (c .settings) w (repeated c t)
+  after-repeat : (k : ℕ) (t : Content) → contentAt c k ≡ t
+      → Next (c .settings) Calm w (repeated c t)
   unfolding repeated
   after-repeat k Content.Empty e = stayed x
   after-repeat k (Content.One m) e =
@@ -322,42 +325,51 @@ module _ {c : Cell} {w : World (setup (c .settings))} (x : Explained (c .setting
       (holds-at (SentIn w) (c .slots) k m (x .messages) e))
 
   after-restart : (h : ℕ) → restartAtRefusal c h ≡ done
-      → Next (c .settings) w (withHost c h (restartedHost (c .settings) (hostAt c h)))
+      → Next (c .settings) Calm w (withHost c h (restartedHost (c .settings) (hostAt c h)))
   unfolding restartAtRefusal stepped sentTo
   after-restart h e =
       let p = host-passed c h _ e in
       after-step h (p .0) (c .slots) (x .messages)
       (quietWith (restartedHost (c .settings) (hostAt c h)))
-      (acts-restart (c .settings) (hostAt c h) (stands h (p .0)))
+      (acts-restart (c .settings) Calm (hostAt c h) (stands h (p .0)))
 
-  after-event : (e : Event) → refusalOf c e ≡ done → Next (c .settings) w (afterOf c e)
-  unfolding refusalOf afterOf
-  after-event (AdvanceAll d) p = after-advance-all d
-  after-event (AdvanceOne h d) p = after-advance-one h d p
-  after-event (Start h d) p = after-start h d p
-  after-event (Deliver k) p = after-deliver k (contentAt c k) refl
-  after-event (Lose k) p = after-slots _ (holds-freed (SentIn w) (c .slots) k (x .messages))
-  after-event (Repeat k) p = after-repeat k (contentAt c k) refl
-  after-event (Restart h) p = after-restart h p
+  after-event : (e : Event) → (Calm → NoRelease c e) → refusalOf c e ≡ done
+      → Next (c .settings) Calm w (afterOf c e)
+  unfolding refusalOf afterOf startAtRefusal releaseAtRefusal NoRelease
+  after-event (AdvanceAll d) n p = after-advance-all d
+  after-event (AdvanceOne h d) n p = after-advance-one h d p
+  after-event (Start h d) n p = after-step-at h _ (begins d) (λ e. e) p
+  after-event (Deliver k) n p = after-deliver k (contentAt c k) refl
+  after-event (Lose k) n p = after-slots _ (holds-freed (SentIn w) (c .slots) k (x .messages))
+  after-event (Repeat k) n p = after-repeat k (contentAt c k) refl
+  after-event (Restart h) n p = after-restart h p
+  after-event (Release h) n p =
+      after-step-at h _ letsGo (λ e. (e, λ k. n k (answer-is c (Release h) ∙ p))) p
 
 -- a refused event hands back the same cell
-pub explained-event : {s : Settings} {c : Cell} {w : World (setup s)} (e : Event) → Sound c
-    → Explained s c w → Next s w (cellOf (eventOf c e))
-explained-event {s} {c} {w} e o x =
-    by-outcome (λ (r : Answered). Next s w (cellOf r)) c e
+pub explained-event : {s : Settings} {Calm : Type 0} {c : Cell} {w : World (setup s)} (e : Event)
+    → (Calm → NoRelease c e) → Sound c → Explained s c w → Next s Calm w (cellOf (eventOf c e))
+explained-event {s} {Calm} {c} {w} e n o x =
+    by-outcome (λ (r : Answered). Next s Calm w (cellOf r)) c e
     (λ p.
-    subst (λ s. (w : World (setup s)) → Explained s c w → Next s w (afterOf c e)) (x .settings)
-    (λ w x. after-event x (o .0) (cell-in c (o .0) (o .1)) e p) w x)
+    subst (λ s. (w : World (setup s)) → Explained s c w → Next s Calm w (afterOf c e)) (x .settings)
+    (λ w x. after-event Calm x (o .0) (cell-in c (o .0) (o .1)) e n p) w x)
     (λ _. stayed x)
 
-pub explained-run : {s : Settings} {c : Cell} {w : World (setup s)} (es : List Event) → Sound c
-    → Explained s c w → Next s w (run c es)
-unfolding run
-explained-run [] o x = stayed x
-explained-run {s} {c} (e ∷ es) o x =
-    let a = explained-event e o x in
-    let b = explained-run es (kept-event c e o) (a .explained) in
-    record { now = b .now; reach = reach-then s (b .reach) (a .reach); explained = b .explained }
+pub explained-run : {s : Settings} {Calm : Type 0} {c : Cell} {w : World (setup s)}
+    (es : List Event) → (Calm → NoReleases c es) → Sound c → Explained s c w
+    → Next s Calm w (run c es)
+unfolding run NoReleases
+explained-run [] n o x = stayed x
+explained-run {s} {Calm} {c} (e ∷ es) n o x =
+    let a = explained-event e (λ k. n k .0) o x in
+    let b = explained-run es (λ k. n k .1) (kept-event c e o) (a .explained) in
+    record {
+      now = b .now;
+      reach = reach-then s (b .reach) (a .reach);
+      explained = b .explained;
+      calm = λ k r q. a .calm k r (b .calm k r q);
+    }
 
 -- ---- opening
 

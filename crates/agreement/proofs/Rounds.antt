@@ -15,9 +15,10 @@ use Rattle.state.specs.Ageing.{agedAt}
 use Rattle.state.proofs.StateLimits.{settings-in}
 use Rattle.host.specs.declared.Host.{Host}
 use Rattle.host.specs.declared.Stepped.{Stepped}
-use Rattle.host.specs.Steps.{advancedHost, restartedHost, onStart}
-use Rattle.host.proofs.Outcomes.{Cause, stepOn, Outcome, outcome, nothing, begun, promised, heard}
-use Rattle.host.proofs.Outcomes.{proposed, gaveUp, accepted, countedVote, named, namedAlone, told}
+use Rattle.host.specs.Steps.{advancedHost, restartedHost, onStart, onRelease}
+use Rattle.host.proofs.Outcomes.{Cause, stepOn, Outcome, outcome, nothing, begun, released}
+use Rattle.host.proofs.Outcomes.{promised, heard, proposed, gaveUp, accepted, countedVote, named}
+use Rattle.host.proofs.Outcomes.{namedAlone, told, freed}
 use Rattle.places.specs.Places.{newHost}
 use Rattle.places.specs.Parts.{Opens}
 use Rattle.cell.specs.declared.Cell.{Cell}
@@ -44,9 +45,10 @@ counted-short n before after p e = sym (acts-first n before after p) ∙ e
 
 short-by : (s : Settings) (h : Host) {t : Stepped} → Outcome s h (λ _. Unit {0}) t → Short (s .n) h
     → Short (s .n) (t .host)
-unfolding repliedIn onStart
+unfolding repliedIn onStart onRelease
 short-by s h nothing p = p
 short-by s h (begun d _) p = nobody-short (s .n)
+short-by s h (released _) p = nobody-short (s .n)
 short-by s h (promised m _ _ _) p = p
 short-by s h (heard a d r x e) p = counted-short (s .n) _ _ (rw (x .round) at p) e
 short-by s h (proposed a d r _ _) p = nobody-short (s .n)
@@ -56,6 +58,7 @@ short-by s h (countedVote v d x e) p = counted-short (s .n) _ _ (rw (x .round) a
 short-by s h (named v d _) p = nobody-short (s .n)
 short-by s h (namedAlone v d _) p = nobody-short (s .n)
 short-by s h (told m _ _) p = p
+short-by s h (freed m _ _ _) p = p
 
 short-step : (s : Settings) (h : Host) (c : Cause) → Short (s .n) h
     → Short (s .n) (stepOn s h c .host)

@@ -3,7 +3,7 @@
 use Prim.Native.Nat.{ℕ, _+_, _*_, _^_, _<_, _≤_}
 use native.Mathlib.Omega.{arith}
 use mathlib.Core.Path.{_≡_, refl, sym, subst₂, _∙_}
-use mathlib.Core.Logic.{_≢_}
+use mathlib.Core.Logic.{_⊎_, inl, inr, _≢_}
 use mathlib.Core.Bool.{Bool, true, false, cond}
 use mathlib.Core.Option.{Option, none, some}
 use lib.Dec.{ltb, eqb}
@@ -12,15 +12,17 @@ use Rattle.base.proofs.Tests.{both}
 use Rattle.quorum.specs.Sets.{bit, isMajority}
 use Rattle.quorum.proofs.Majorities.{majorities-meet}
 use Rattle.message.specs.declared.Ballot.{Ballot}
+use Rattle.message.specs.declared.Lease.{Lease}
 use Rattle.message.specs.declared.Message.{Message}
 use Rattle.message.specs.declared.Message.the-variants.{PrepareRequest, PrepareResponseEmpty}
 use Rattle.message.specs.declared.Message.the-variants.{PrepareResponseLease, ProposeRequest}
-use Rattle.message.specs.declared.Message.the-variants.{ProposeResponse, Learn}
+use Rattle.message.specs.declared.Message.the-variants.{ProposeResponse, Learn, ReleaseRequest}
 use Rattle.message.specs.Message.{isAbove, isSame, numbersOf, messageOf, addressedTo}
 use Rattle.rules.specs.declared.Promised.{Promised}
 use Rattle.rules.specs.declared.Accepted.{Accepted}
 use Rattle.rules.specs.declared.LastBallot.{LastBallot}
 use Rattle.rules.specs.declared.Named.{Named}
+use Rattle.rules.proofs.Laws.{LeaseLeft, empty, over, live}
 use Rattle.state.specs.declared.Settings.{Settings}
 use Rattle.state.specs.declared.Round.{Round}
 use Rattle.host.specs.declared.Host.{Host}
@@ -30,6 +32,7 @@ use Rattle.theory.specs.Ballots as N
 use Rattle.theory.specs.Model as M
 use Rattle.theory.specs.Model.{Setup, World, Act, put, act, Reach, here, then}
 use Rattle.theory.proofs.Ballots.{changed-all, changed-here, with-old}
+use Rattle.theory.proofs.Act.{NoRelease, released-before}
 
 -- ---- ballots as numbers, in the same order; a cell has 9 hosts at most
 
@@ -77,6 +80,17 @@ asLease Accepted.Nothing = none
 asLease (Accepted.One l) =
     some (record { ballot = code (l .ballot); owner = l .owner; end = l .end .0 })
 
+-- what is left of a lease, where what it goes by is Went in the theory
+pub lease-left : {Goes Stays : Lease → Type 0} (Went : N.Lease → Type 0) {a b : Accepted}
+    → ((l : Lease) → a ≡ Accepted.One l → Goes l
+    → Went (record { ballot = code (l .ballot); owner = l .owner; end = l .end .0 }))
+    → LeaseLeft Goes Stays a b
+    → (asLease b ≡ asLease a)
+    ⊎ ((asLease b ≡ none) × (l : N.Lease) × (asLease a ≡ some l) × Went l)
+lease-left Went f empty = inl refl
+lease-left Went f (over l t) = inr (refl, _, refl, f l refl t)
+lease-left Went f (live l t) = inl refl
+
 abbrev pub asHolder : Named → Option N.Holder
 asHolder Named.Nobody = none
 asHolder (Named.One k) =
@@ -91,6 +105,7 @@ asMessage (PrepareResponseLease m) =
 asMessage (ProposeRequest m) = M.proposeRequest (code (m .head .ballot)) (m .owner) (m .end .0)
 asMessage (ProposeResponse m) = M.proposeResponse (m .sender) (code (m .ballot))
 asMessage (Learn m) = M.learn (code (m .head .ballot)) (m .owner) (m .end .0)
+asMessage (ReleaseRequest m) = M.release (code (m .ballot))
 
 -- a message's target is not part of it
 pub message-to : (m : Message) (h : ℕ) → asMessage (addressedTo m h) ≡ asMessage m
@@ -101,6 +116,7 @@ message-to (PrepareResponseLease m) h = refl
 message-to (ProposeRequest m) h = refl
 message-to (ProposeResponse m) h = refl
 message-to (Learn m) h = refl
+message-to (ReleaseRequest m) h = refl
 
 -- ---- the setup: sets are numbers with one bit a host
 
@@ -154,21 +170,33 @@ module _ (s : Settings) where
   Sends w Sent.Nothing = Unit {0}
   Sends w (Sent.One m) = M.Sent w (asMessage m)
 
+  -- every release that is sent in `now` was sent in w
+  abbrev pub NoneNew : World (setup s) → World (setup s) → Type 0
+  NoneNew w now = (r : ℕ) → M.Sent now (M.release r) → M.Sent w (M.release r)
+
+  pub reach-then : {v w : World (setup s)} → Reach v w → {u : World (setup s)} → Reach u v
+      → Reach u w
+  reach-then here r = r
+  reach-then (then p a) r = then (reach-then p r) a
+
+-- Calm is what is supposed where no release may be sent
+module _ (s : Settings) (Calm : Type 0) where
   -- x in w has taken the step t: the theory goes from w to a world in which x is what t leaves,
-  -- every clock and every other host are as before, what was sent still is, and what t sends is
-  -- sent
+  -- every clock and every other host are as before, what was sent still is, what t sends is sent,
+  -- and where Calm is supposed there is no new release
   pub record Acted (w : World (setup s)) (x : ℕ) (t : Stepped) : Type 0 where
     pub now : World (setup s)
     pub reach : Reach w now
-    pub stands : Stands now x (t .host)
+    pub stands : Stands s now x (t .host)
     pub clocks : (y : ℕ) → now .clock y ≡ w .clock y
     pub others : (y : ℕ) → y ≢ x → now .host y ≡ w .host y
     pub kept : (m : M.Message) → M.Sent w m → M.Sent now m
-    pub sent : Sends now (t .sent)
+    pub sent : Sends s now (t .sent)
+    pub calm : Calm → NoneNew s w now
 
   -- nothing done
-  pub rested : {w : World (setup s)} {x : ℕ} (t : Stepped) → Stands w x (t .host)
-      → Sends w (t .sent) → Acted w x t
+  pub rested : {w : World (setup s)} {x : ℕ} (t : Stepped) → Stands s w x (t .host)
+      → Sends s w (t .sent) → Acted w x t
   rested {w} t e q =
       record {
         now = w;
@@ -179,14 +207,16 @@ module _ (s : Settings) where
             refl;
         kept = λ m q. q;
         sent = q;
+        calm = λ _ r q. q;
       }
 
   -- one act of the theory
-  pub acted-once : {w : World (setup s)} {x : ℕ} {h : Host} → Stands w x h
+  pub acted-once : {w : World (setup s)} {x : ℕ} {h : Host} → Stands s w x h
       → (t : Stepped) (m : Option M.Message)
-      → Act (h .clock) (asHost h) (w .sent) x (asHost (t .host)) m → t .host .clock ≡ h .clock
-      → Sends (put w x (asHost (t .host)) m) (t .sent) → Acted w x t
-  acted-once {w} {x} {h} e t m a k q = record {
+      → Act (h .clock) (asHost s h) (w .sent) x (asHost s (t .host)) m → (Calm → NoRelease m)
+      → t .host .clock ≡ h .clock → Sends s (put w x (asHost s (t .host)) m) (t .sent)
+      → Acted w x t
+  acted-once {w} {x} {h} e t m a n k q = record {
     now = put w x v m;
     reach =
         then here
@@ -198,25 +228,22 @@ module _ (s : Settings) where
         (λ y d d'. refl);
     kept = λ m' q. with-old m q;
     sent = q;
+    calm = λ c. released-before m (n c);
   }
     where
       v : M.Host (setup s)
-      v = asHost (t .host)
-
-  pub reach-then : {v w : World (setup s)} → Reach v w → {u : World (setup s)} → Reach u v
-      → Reach u w
-  reach-then here r = r
-  reach-then (then p a) r = then (reach-then p r) a
+      v = asHost s (t .host)
 
   -- one step after another, which leaves what the last leaves and sends what the last sends
   pub acted-then : {w : World (setup s)} {x : ℕ} {t u : Stepped} (a : Acted w x t)
       → Acted (a .now) x u → Acted w x u
   acted-then a b = record {
     now = b .now;
-    reach = reach-then (b .reach) (a .reach);
+    reach = reach-then s (b .reach) (a .reach);
     stands = b .stands;
     clocks = λ y. b .clocks y ∙ a .clocks y;
     others = λ y d. b .others y d ∙ a .others y d;
     kept = λ m q. b .kept m (a .kept m q);
     sent = b .sent;
+    calm = λ c r q. a .calm c r (b .calm c r q);
   }

@@ -61,6 +61,9 @@ refusedLong = 16
 abbrev pub refusedShort : ℕ
 refusedShort = 17
 
+abbrev pub refusedNotHolder : ℕ
+refusedNotHolder = 18
+
 -- ---- answers
 
 -- 0 where a test holds, else the refusal's number

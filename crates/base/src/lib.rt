@@ -35,3 +35,5 @@ pub const REFUSED_CLOCK: u8 = 15;
 pub const REFUSED_LONG: u8 = 16;
 
 pub const REFUSED_SHORT: u8 = 17;
+
+pub const REFUSED_NOT_HOLDER: u8 = 18;

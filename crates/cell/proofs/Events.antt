@@ -22,7 +22,7 @@ use Rattle.slots.proofs.Laws.{Holds, holds-placed-each, length-placed-each, fre
 use Rattle.cell.specs.declared.Cell.{Cell}
 use Rattle.cell.specs.declared.Event.{Event}
 use Rattle.cell.specs.declared.Event.the-variants.{AdvanceAll, AdvanceOne, Start, Deliver}
-use Rattle.cell.specs.declared.Event.the-variants.{Lose, Repeat, Restart}
+use Rattle.cell.specs.declared.Event.the-variants.{Lose, Repeat, Restart, Release}
 use Rattle.cell.specs.declared.Answered.{Answered}
 use Rattle.cell.specs.CellLimits.{contentAt}
 use Rattle.cell.specs.Events.{answeredWith, cellOf, messagesIn, sentTo, stepped, advancedAll}
@@ -72,6 +72,7 @@ after-settings c (Deliver i) = delivered-settings c i (contentAt c i)
 after-settings c (Lose i) = refl
 after-settings c (Repeat i) = repeated-settings c (contentAt c i)
 after-settings c (Restart h) = refl
+after-settings c (Release h) = refl
 
 pub settings-same : (c : Cell) (e : Event) → eventOf c e .settings ≡ c .settings
 settings-same c e =

@@ -8,13 +8,13 @@ use Rattle.message.specs.Message.{targetOf}
 use Rattle.state.specs.declared.Settings.{Settings}
 use Rattle.host.specs.declared.Host.{Host}
 use Rattle.host.specs.Steps.{advancedHost, restartedHost}
-use Rattle.host.proofs.Outcomes.{Cause, begins, gets, stepOn}
+use Rattle.host.proofs.Outcomes.{Cause, begins, letsGo, gets, stepOn}
 use Rattle.slots.specs.declared.Slot.{Slot}
 use Rattle.slots.specs.declared.Content.{Content}
 use Rattle.cell.specs.declared.Cell.{Cell}
 use Rattle.cell.specs.declared.Event.{Event}
 use Rattle.cell.specs.declared.Event.the-variants.{AdvanceAll, AdvanceOne, Start, Deliver}
-use Rattle.cell.specs.declared.Event.the-variants.{Lose, Repeat, Restart}
+use Rattle.cell.specs.declared.Event.the-variants.{Lose, Repeat, Restart, Release}
 use Rattle.cell.specs.declared.Answered.{Answered}
 use Rattle.cell.specs.CellLimits.{hostAt, withHost, contentAt}
 use Rattle.cell.specs.Events.{cellOf, stepped, advancedAll, advancedOne, delivered, repeated}
@@ -70,6 +70,7 @@ module _ (c : Cell) (P : Host → Host → Type 0) (q : Changes (c .settings) P)
   after (Lose i) k = q .same (hostAt c k)
   after (Repeat i) k = a-repeat (contentAt c i) k
   after (Restart h) k = one-host h _ (q .restarted (hostAt c h)) k
+  after (Release h) k = a-step h (c .slots) letsGo k
 
   pub by-change : (e : Event) → To (cellOf (eventOf c e))
   by-change e =

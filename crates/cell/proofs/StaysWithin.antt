@@ -17,14 +17,13 @@ use Rattle.state.specs.StateLimits.{sizesOf}
 use Rattle.host.specs.declared.Host.{Host}
 use Rattle.host.specs.declared.Stepped.{Stepped}
 use Rattle.host.specs.Steps.{hostOk, advanceRefusal, advancedHost, restartRefusal, restartedHost}
-use Rattle.host.specs.Steps.{startRefusal}
 use Rattle.state.proofs.StateLimits.{settings-in}
 use Rattle.host.proofs.HostLimits.{host-in}
 use Rattle.host.proofs.Writable.{writable-each}
 use Rattle.host.proofs.Refusals.{restart-in}
-use Rattle.host.proofs.Within.{Fine, fine-restart, fine-advance, fine-step}
+use Rattle.host.proofs.Within.{Fine, Passes, fine-restart, fine-advance, fine-step}
 use Rattle.host.specs.Claims.{Stays}
-use Rattle.host.proofs.Outcomes.{begins, gets, stays-step}
+use Rattle.host.proofs.Outcomes.{Cause, begins, letsGo, gets, stepOn, stays-step}
 use Rattle.places.specs.Places.{blankHost, newHost}
 use Rattle.places.specs.Parts.{Opens}
 use Rattle.places.proofs.Opening.{new-blank, new-at, new-fits}
@@ -36,15 +35,15 @@ use Rattle.slots.proofs.Laws.{holds-placed, holds-at}
 use Rattle.cell.specs.declared.Cell.{Cell}
 use Rattle.cell.specs.declared.Event.{Event}
 use Rattle.cell.specs.declared.Event.the-variants.{AdvanceAll, AdvanceOne, Start, Deliver}
-use Rattle.cell.specs.declared.Event.the-variants.{Lose, Repeat, Restart}
+use Rattle.cell.specs.declared.Event.the-variants.{Lose, Repeat, Restart, Release}
 use Rattle.cell.specs.declared.Answered.{Answered}
 use Rattle.cell.specs.CellLimits.{hostAt, withHost, contentAt, clocksNear, cellOk}
 use Rattle.cell.specs.Events.{answeredWith, cellOf, withSlots, sentTo, stepped}
 use Rattle.cell.specs.Events.{openingRefusal, openedWith, leastSettings, openingOf}
 use Rattle.cell.specs.Events.{hostsRefusal, advanceAllRefusal, advancedAll, advancedOne}
-use Rattle.cell.specs.Events.{advanceOneRefusal, startStep, startAtRefusal, deliverStep}
-use Rattle.cell.specs.Events.{delivered, repeated, restartAtRefusal, refusalOf, afterOf}
-use Rattle.cell.specs.Events.{eventOf}
+use Rattle.cell.specs.Events.{advanceOneRefusal, stepAtRefusal, startAtRefusal, deliverStep}
+use Rattle.cell.specs.Events.{delivered, repeated, restartAtRefusal, releaseAtRefusal}
+use Rattle.cell.specs.Events.{refusalOf, afterOf, eventOf}
 use Rattle.cell.specs.Runs.{opening, run}
 use Rattle.cell.specs.Claims.{Sized, Sound}
 use Rattle.cell.proofs.Hosts.{sized-host, by-host, sized-all, all-below, all-above}
@@ -217,17 +216,19 @@ kept-advance-one c h d o e =
     host-kept c h x o (p1 .0) refl (fine-advance s (hostAt c h) d (p2 .0) .kept)
     (near-in (withHost c h x) (sized-host c h x (o .0)) (cell-in c (o .0) (o .1) .settings) (p3 .0))
 
-kept-start : (c : Cell) (h d : ℕ) → Sound c → startAtRefusal c h d ≡ done
-    → Sound (stepped c h (c .slots) (startStep c h d))
-unfolding startAtRefusal
-kept-start c h d o e =
+-- a host's own step that nothing refuses by k or for its place or its room
+kept-step-at : (c : Cell) (h k : ℕ) (cause : Cause)
+    → let step = stepOn (c .settings) (hostAt c h) cause in Sound c
+    → (k ≡ done → Passes (c .settings) (hostAt c h) cause) → stepAtRefusal c h k step ≡ done
+    → Sound (stepped c h (c .slots) step)
+kept-step-at c h k cause o f e =
+    let s = c .settings in
+    let x = hostAt c h in
     let p1 = host-passed c h _ e in
-    let p2 = first-passed (startRefusal (c .settings) (hostAt c h) d) _ (p1 .1) in
+    let p2 = first-passed k _ (p1 .1) in
     let j = cell-in c (o .0) (o .1) in
-    step-kept c h (c .slots) (startStep c h d) o (p1 .0)
-    (stays-step (c .settings) (hostAt c h) (begins d))
-    (fine-step (c .settings) (hostAt c h) (begins d)
-    (host-in (c .settings) (hostAt c h) (j .host h (p1 .0))) (p2 .0)) refl (j .messages)
+    step-kept c h (c .slots) (stepOn s x cause) o (p1 .0) (stays-step s x cause)
+    (fine-step s x cause (host-in s x (j .host h (p1 .0))) (f (p2 .0))) refl (j .messages)
 
 kept-deliver : (c : Cell) (i : ℕ) (t : Content) → contentAt c i ≡ t → Sound c
     → Sound (delivered c i t)
@@ -269,14 +270,15 @@ kept-restart c h o e =
     (fine-restart (c .settings) (hostAt c h) (restart-in (c .settings) (hostAt c h) (p2 .0)) .kept)
 
 kept-after : (c : Cell) (e : Event) → Sound c → refusalOf c e ≡ done → Sound (afterOf c e)
-unfolding refusalOf afterOf
+unfolding refusalOf afterOf startAtRefusal releaseAtRefusal
 kept-after c (AdvanceAll d) o p = kept-advance-all c d o p
 kept-after c (AdvanceOne h d) o p = kept-advance-one c h d o p
-kept-after c (Start h d) o p = kept-start c h d o p
+kept-after c (Start h d) o p = kept-step-at c h _ (begins d) o (λ e. e) p
 kept-after c (Deliver i) o p = kept-deliver c i (contentAt c i) refl o
 kept-after c (Lose i) o p = kept-lose c i o
 kept-after c (Repeat i) o p = kept-repeat c i (contentAt c i) refl o
 kept-after c (Restart h) o p = kept-restart c h o p
+kept-after c (Release h) o p = kept-step-at c h _ letsGo o (λ e. e) p
 
 -- ---- any event, and any run
 

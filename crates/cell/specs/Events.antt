@@ -1,5 +1,5 @@
--- Opening and the seven events, in document 01's order: what is refused and what is done, apart.
--- The host's part of each is the rule book's. Assumes nothing.
+-- Opening and the eight events, in document 01's order, with document 02's release: what is refused
+-- and what is done, apart. The host's part of each is the rule book's. Assumes nothing.
 use Prim.Native.Nat.{ℕ}
 use mathlib.Core.Bool.{cond}
 use mathlib.Core.List.{List, [], _∷_}
@@ -14,7 +14,7 @@ use Rattle.state.specs.StateLimits.{OpeningField, openingClock, settingsTests}
 use Rattle.host.specs.declared.Sent.{Sent}
 use Rattle.host.specs.declared.Stepped.{Stepped}
 use Rattle.host.specs.Steps.{advanceRefusal, advancedHost, restartRefusal, restartedHost}
-use Rattle.host.specs.Steps.{startRefusal, onStart, onDelivery}
+use Rattle.host.specs.Steps.{startRefusal, onStart, releaseRefusal, onRelease, onDelivery}
 use Rattle.places.specs.Places.{newHosts, advancesRefusal, advancedHosts}
 use Rattle.slots.specs.declared.Slot.{Slot}
 use Rattle.slots.specs.declared.Content.{Content}
@@ -22,7 +22,7 @@ use Rattle.slots.specs.Slots.{noMessages, slotRefusal, fullRefusal, placed, pla
 use Rattle.cell.specs.declared.Cell.{Cell}
 use Rattle.cell.specs.declared.Event.{Event}
 use Rattle.cell.specs.declared.Event.the-variants.{AdvanceAll, AdvanceOne, Start, Deliver}
-use Rattle.cell.specs.declared.Event.the-variants.{Lose, Repeat, Restart}
+use Rattle.cell.specs.declared.Event.the-variants.{Lose, Repeat, Restart, Release}
 use Rattle.cell.specs.declared.Answered.{Answered}
 use Rattle.cell.specs.CellLimits.{hostAt, withHost, contentAt, clocksNear, cellOk}
 
@@ -120,20 +120,26 @@ advanceOneRefusal c h d =
     ∷ []
     )
 
--- ---- start at a host: 1, 5, then the host's own, 9, 11, 10, then 13
+-- ---- a host's own step: 1, 5, then what the host refuses it by, then 13 for what it sends
+
+abbrev pub stepAtRefusal : Cell → ℕ → ℕ → Stepped → ℕ
+stepAtRefusal c h k step =
+    firstOf (
+    unless (cellOk c) refusedCell
+    ∷ hostRefusal c h
+    ∷ k
+    ∷ stepFull (c .slots) step
+    ∷ []
+    )
+
+-- ---- start at a host: the host's own are 9, 11, 10
 
 abbrev pub startStep : Cell → ℕ → ℕ → Stepped
 startStep c h d = onStart (c .settings) (hostAt c h) d
 
 unfoldable pub startAtRefusal : Cell → ℕ → ℕ → ℕ
 startAtRefusal c h d =
-    firstOf (
-    unless (cellOk c) refusedCell
-    ∷ hostRefusal c h
-    ∷ startRefusal (c .settings) (hostAt c h) d
-    ∷ stepFull (c .slots) (startStep c h d)
-    ∷ []
-    )
+    stepAtRefusal c h (startRefusal (c .settings) (hostAt c h) d) (startStep c h d)
 
 -- ---- deliver a slot: 1, 12, 13, 'counting the freed slot as empty'
 
@@ -194,6 +200,15 @@ restartAtRefusal c h =
     ∷ []
     )
 
+-- ---- release at a host (02): the host's own are 9, 18, 10
+
+abbrev pub releaseStep : Cell → ℕ → Stepped
+releaseStep c h = onRelease (c .settings) (hostAt c h)
+
+unfoldable pub releaseAtRefusal : Cell → ℕ → ℕ
+releaseAtRefusal c h =
+    stepAtRefusal c h (releaseRefusal (c .settings) (hostAt c h)) (releaseStep c h)
+
 -- ---- any event: the number that it is refused by, and the cell where nothing is refused
 
 unfoldable pub refusalOf : Cell → Event → ℕ
@@ -204,6 +219,7 @@ refusalOf c (Deliver i) = deliverRefusal c i
 refusalOf c (Lose i) = loseRefusal c i
 refusalOf c (Repeat i) = repeatRefusal c i
 refusalOf c (Restart h) = restartAtRefusal c h
+refusalOf c (Release h) = releaseAtRefusal c h
 
 unfoldable pub afterOf : Cell → Event → Cell
 afterOf c (AdvanceAll d) = advancedAll c d
@@ -213,6 +229,7 @@ afterOf c (Deliver i) = delivered c i (contentAt c i)
 afterOf c (Lose i) = withSlots c (freed (c .slots) i)
 afterOf c (Repeat i) = repeated c (contentAt c i)
 afterOf c (Restart h) = withHost c h (restartedHost (c .settings) (hostAt c h))
+afterOf c (Release h) = stepped c h (c .slots) (releaseStep c h)
 
 -- a refused event changes nothing
 unfoldable pub eventOf : Cell → Event → Answered

@@ -21,7 +21,7 @@ pub struct Cell {
     pub slots: [Slot; 96],
 }
 
-// The seven events: ticks to advance by, a host's number, a duration, a slot's number.
+// The eight events: ticks to advance by, a host's number, a duration, a slot's number.
 pub enum Event {
     AdvanceAll(u64),
     AdvanceOne(u8, u64),
@@ -30,6 +30,7 @@ pub enum Event {
     Lose(u8),
     Repeat(u8),
     Restart(u8),
+    Release(u8),
 }
 
 // What opening or an event gives, and the next event is handed: the answer's number and the cell,

@@ -25,11 +25,13 @@ use Rattle.host.specs.declared.Host.{Host}
 use Rattle.host.specs.declared.Sent.{Sent}
 use Rattle.host.specs.declared.Stepped.{Stepped}
 use Rattle.host.specs.Steps.{refusedWith, quietWith, sendingWith, advanceRefusal, advanceOf}
-use Rattle.host.specs.Steps.{advancedHost, restartRefusal, restartOf, restartedHost, startRefusal}
-use Rattle.host.specs.Steps.{startOf, onStart, receiveRefusal, receiveOf}
+use Rattle.host.specs.Steps.{advancedHost, restartRefusal, restartOf, restartedHost}
+use Rattle.host.specs.Steps.{receiveRefusal, receiveOf}
+use Rattle.host.specs.Claims.{Lawful}
 use Rattle.host.proofs.Refusals.{message-passed}
-use Rattle.host.proofs.Within.{lawful-advance, lawful-restart, lawful-start, lawful-message}
-use Rattle.host.proofs.Outcomes.{begins, gets, stays-step}
+use Rattle.host.proofs.Within.{lawful-advance, lawful-restart, lawful-start, lawful-release}
+use Rattle.host.proofs.Within.{lawful-message}
+use Rattle.host.proofs.Outcomes.{Cause, begins, letsGo, gets, stepOn, stays-step}
 use Rattle.slots.specs.declared.Slot.{Slot}
 use Rattle.slots.specs.declared.Content.{Content}
 use Rattle.slots.specs.Slots.{slotCount, emptySlot, isEmpty, slotRefusal, empties, fullRefusal}
@@ -38,14 +40,14 @@ use Rattle.slots.specs.Parts.{slotAfter}
 use Rattle.cell.specs.declared.Cell.{Cell}
 use Rattle.cell.specs.declared.Event.{Event}
 use Rattle.cell.specs.declared.Event.the-variants.{AdvanceAll, AdvanceOne, Start, Deliver, Lose}
-use Rattle.cell.specs.declared.Event.the-variants.{Repeat, Restart}
+use Rattle.cell.specs.declared.Event.the-variants.{Repeat, Restart, Release}
 use Rattle.cell.specs.CellLimits.{hostAt, withHost, contentAt, clocksNear, cellOk}
 use Rattle.cell.specs.Events.{answeredWith, answerWith, withSlots, hostRefusal, messagesIn}
 use Rattle.cell.specs.Events.{stepFull, sentTo, stepped, hostsRefusal, advanceAllRefusal}
-use Rattle.cell.specs.Events.{advancedAll, advanceOneRefusal, advancedOne, startStep}
+use Rattle.cell.specs.Events.{advancedAll, advanceOneRefusal, advancedOne, stepAtRefusal}
 use Rattle.cell.specs.Events.{startAtRefusal, deliverStep, deliverFull, deliverRefusal, delivered}
-use Rattle.cell.specs.Events.{loseRefusal, repeatRefusal, repeated, restartAtRefusal, refusalOf}
-use Rattle.cell.specs.Events.{afterOf, eventOf}
+use Rattle.cell.specs.Events.{loseRefusal, repeatRefusal, repeated, restartAtRefusal}
+use Rattle.cell.specs.Events.{releaseAtRefusal, refusalOf, afterOf, eventOf}
 use Rattle.cell.specs.Claims.{Sized}
 use Rattle.cell.proofs.Hosts.{sized-host, host-keeps, out-near}
 use Rattle.cell.proofs.CellLimits.{cell-in, n-of, message-of}
@@ -89,12 +91,13 @@ all-is (Deliver i) p = true-false (sym p)
 all-is (Lose i) p = true-false (sym p)
 all-is (Repeat i) p = true-false (sym p)
 all-is (Restart h) p = true-false (sym p)
+all-is (Release h) p = true-false (sym p)
 
 -- ---- a cell past its limits: 1, whatever the event
 
 past-refusal : (c : Cell) (e : Event) → cellOk c ≡ false → refusalOf c e ≡ refusedCell
 unfolding refusalOf advanceAllRefusal advanceOneRefusal startAtRefusal deliverRefusal loseRefusal
-    repeatRefusal restartAtRefusal firstOf
+    repeatRefusal restartAtRefusal releaseAtRefusal firstOf
 past-refusal c (AdvanceAll d) o = rw o
 past-refusal c (AdvanceOne h d) o = rw o
 past-refusal c (Start h d) o = rw o
@@ -102,6 +105,7 @@ past-refusal c (Deliver i) o = rw o
 past-refusal c (Lose i) o = rw o
 past-refusal c (Repeat i) o = rw o
 past-refusal c (Restart h) o = rw o
+past-refusal c (Release h) o = rw o
 
 pub past-limits : (c : Cell) (e : Event) → cellOk c ≡ false
     → answeredWith refusedCell c ≡ eventOf c e
@@ -189,7 +193,7 @@ module _ (c : Cell) (z : Sized c) (o : cellOk c ≡ true) where
   unfolding stepped sentTo
   still-changed i a = rw (keeps (c .slots) i, host-keeps c 0)
 
-  -- ---- advance one, start, restart
+  -- ---- advance one, start, restart, release
 
   one-refusal : (h d : ℕ)
       → advanceOneRefusal c h d
@@ -216,28 +220,28 @@ module _ (c : Cell) (z : Sized c) (o : cellOk c ≡ true) where
       host-after h _ _ _ (quietWith (advancedHost (hostAt c h) d))
       (lawful-advance (c .settings) (hostAt c h) d .carried-out)
 
-  start-refusal : (h d : ℕ)
-      → startAtRefusal c h d
-      ≡ changeRefusal c 0 h (change (startOf (c .settings) (hostAt c h) d) false)
-  unfolding startAtRefusal
-  start-refusal h d =
+  -- a host's own step, refused by k where k is not 0
+  own-refusal : (h : ℕ) (cause : Cause) (k : ℕ) (result : Stepped)
+      → let step = stepOn (c .settings) (hostAt c h) cause in
+      Lawful (c .settings) (hostAt c h) k step result
+      → stepAtRefusal c h k step ≡ changeRefusal c 0 h (change result false)
+  own-refusal h cause k result l =
       let s = c .settings in
       let x = hostAt c h in
-      let step = onStart s x d in
-      host-row h (change (startOf s x d) false) (startRefusal s x d) _ (lawful-start s x d .number)
+      let step = stepOn s x cause in
+      host-row h (change result false) k _ (l .number)
       (λ e.
       first-only (stepFull (c .slots) step)
       ∙ ap (λ (ss : List Slot). stepFull ss step) (sym (keeps (c .slots) 0))
-      ∙ sym (still-passed 0 h (change step false) (stays-step s x (begins d) .clock))
-      ∙ ap (λ (y : Stepped). firstOf (tail 0 h (change y false)))
-      (sym (lawful-start s x d .carried-out e)))
+      ∙ sym (still-passed 0 h (change step false) (stays-step s x cause .clock))
+      ∙ ap (λ (y : Stepped). firstOf (tail 0 h (change y false))) (sym (l .carried-out e)))
 
-  start-after : (h d : ℕ) → startAtRefusal c h d ≡ done
-      → stepped c h (c .slots) (startStep c h d)
-      ≡ changed c 0 h (change (startOf (c .settings) (hostAt c h) d) false)
-  unfolding startAtRefusal
-  start-after h d =
-      host-after h _ _ _ (startStep c h d) (lawful-start (c .settings) (hostAt c h) d .carried-out)
+  own-after : (h : ℕ) (cause : Cause) (k : ℕ) (result : Stepped)
+      → let step = stepOn (c .settings) (hostAt c h) cause in
+      Lawful (c .settings) (hostAt c h) k step result → stepAtRefusal c h k step ≡ done
+      → stepped c h (c .slots) step ≡ changed c 0 h (change result false)
+  own-after h cause k result l =
+      host-after h _ _ _ (stepOn (c .settings) (hostAt c h) cause) (l .carried-out)
 
   restart-refusal : (h : ℕ)
       → restartAtRefusal c h
@@ -364,25 +368,32 @@ module _ (c : Cell) (z : Sized c) (o : cellOk c ≡ true) where
 
   refusal-is : (e : Event) → isAll e ≡ false
       → refusalOf c e ≡ changeRefusal c (slotOf e) (host e) (changes e)
-  unfolding refusalOf changeOf deliverRefusal loseRefusal repeatRefusal
+  unfolding refusalOf changeOf startAtRefusal deliverRefusal loseRefusal repeatRefusal
+      releaseAtRefusal
   refusal-is (AdvanceAll d) p = true-false p
   refusal-is (AdvanceOne h d) p = one-refusal h d
-  refusal-is (Start h d) p = start-refusal h d
+  refusal-is (Start h d) p =
+      own-refusal h (begins d) _ _ (lawful-start (c .settings) (hostAt c h) d)
   refusal-is (Deliver i) p = deliver-refusal i (contentAt c i) refl
   refusal-is (Lose i) p = lose-refusal i (contentAt c i)
   refusal-is (Repeat i) p = repeat-refusal i (contentAt c i)
   refusal-is (Restart h) p = restart-refusal h
+  refusal-is (Release h) p =
+      own-refusal h letsGo _ _ (lawful-release (c .settings) (hostAt c h))
 
   after-is : (e : Event) → isAll e ≡ false → refusalOf c e ≡ done
       → afterOf c e ≡ changed c (slotOf e) (host e) (changes e)
-  unfolding refusalOf afterOf changeOf
+  unfolding refusalOf afterOf changeOf startAtRefusal releaseAtRefusal
   after-is (AdvanceAll d) p q = true-false p
   after-is (AdvanceOne h d) p q = one-after h d q
-  after-is (Start h d) p q = start-after h d q
+  after-is (Start h d) p q =
+      own-after h (begins d) _ _ (lawful-start (c .settings) (hostAt c h) d) q
   after-is (Deliver i) p q = deliver-after i (contentAt c i) refl
   after-is (Lose i) p q = lose-after i (contentAt c i)
   after-is (Repeat i) p q = repeat-after i (contentAt c i) refl
   after-is (Restart h) p q = restart-after h q
+  after-is (Release h) p q =
+      own-after h letsGo _ _ (lawful-release (c .settings) (hostAt c h)) q
 
   -- ---- an advance of all
 

@@ -13,7 +13,7 @@ use Rattle.state.specs.declared.Settings.{Settings}
 use Rattle.host.specs.declared.Host.{Host}
 use Rattle.host.specs.declared.Stepped.{Stepped}
 use Rattle.host.specs.Steps.{refusedWith, quietWith, sendingWith, advanceOf, restartOf, startOf}
-use Rattle.host.specs.Steps.{receiveOf}
+use Rattle.host.specs.Steps.{releaseOf, receiveOf}
 use Rattle.slots.specs.declared.Slot.{Slot}
 use Rattle.slots.specs.declared.Content.{Content}
 use Rattle.slots.specs.Slots.{slotCount, emptySlot}
@@ -21,7 +21,7 @@ use Rattle.slots.specs.Parts.{slotAfter}
 use Rattle.cell.specs.declared.Cell.{Cell}
 use Rattle.cell.specs.declared.Event.{Event}
 use Rattle.cell.specs.declared.Event.the-variants.{AdvanceAll, AdvanceOne, Start, Deliver, Lose}
-use Rattle.cell.specs.declared.Event.the-variants.{Repeat, Restart}
+use Rattle.cell.specs.declared.Event.the-variants.{Repeat, Restart, Release}
 use Rattle.cell.specs.CellLimits.{withHost, clocksNear}
 use Rattle.cell.specs.Events.{hostRefusal, stepFull, stepped}
 use Rattle.change.specs.declared.Change.{Change}
@@ -36,6 +36,7 @@ isAll (Deliver i) = false
 isAll (Lose i) = false
 isAll (Repeat i) = false
 isAll (Restart h) = false
+isAll (Release h) = false
 
 abbrev pub ticksOf : Event → ℕ
 ticksOf (AdvanceAll d) = d
@@ -45,6 +46,7 @@ ticksOf (Deliver i) = 0
 ticksOf (Lose i) = 0
 ticksOf (Repeat i) = 0
 ticksOf (Restart h) = 0
+ticksOf (Release h) = 0
 
 -- the slot, or slot 0, which then stays
 abbrev pub slotOf : Event → ℕ
@@ -55,6 +57,7 @@ slotOf (Deliver i) = i
 slotOf (Lose i) = i
 slotOf (Repeat i) = i
 slotOf (Restart h) = 0
+slotOf (Release h) = 0
 
 abbrev pub targetIn : Content → ℕ
 targetIn Content.Empty = 0
@@ -69,6 +72,7 @@ hostOf (Deliver i) t = targetIn t
 hostOf (Lose i) t = 0
 hostOf (Repeat i) t = 0
 hostOf (Restart h) t = h
+hostOf (Release h) t = h
 
 -- ---- the change
 
@@ -107,6 +111,7 @@ changeOf s (Deliver i) h t = deliverChange s h t
 changeOf s (Lose i) h t = loseChange h t
 changeOf s (Repeat i) h t = repeatChange h t
 changeOf s (Restart k) h t = change (restartOf s h) false
+changeOf s (Release k) h t = change (releaseOf s h) false
 
 -- ---- the change committed
 

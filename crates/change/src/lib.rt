@@ -38,6 +38,7 @@ pub fn is_all(e: Event) -> bool
         Event::Lose(_) => false,
         Event::Repeat(_) => false,
         Event::Restart(_) => false,
+        Event::Release(_) => false,
     }
 }
 
@@ -53,6 +54,7 @@ pub fn ticks_of(e: Event) -> u64
         Event::Lose(_) => 0,
         Event::Repeat(_) => 0,
         Event::Restart(_) => 0,
+        Event::Release(_) => 0,
     }
 }
 
@@ -68,6 +70,7 @@ pub fn slot_of(e: Event) -> u8
         Event::Lose(slot) => slot,
         Event::Repeat(slot) => slot,
         Event::Restart(_) => 0,
+        Event::Release(_) => 0,
     }
 }
 
@@ -93,6 +96,7 @@ pub fn host_of(e: Event, content: Content) -> u8
         Event::Lose(_) => 0,
         Event::Repeat(_) => 0,
         Event::Restart(host) => host,
+        Event::Release(host) => host,
     }
 }
 
@@ -159,6 +163,7 @@ pub fn change_of(s: Settings, e: Event, h: Host, content: Content) -> Change
         Event::Lose(_) => lose_change(h, content),
         Event::Repeat(_) => repeat_change(h, content),
         Event::Restart(_) => change_by(h.restart(s), false),
+        Event::Release(_) => change_by(h.release(s), false),
     }
 }
 

@@ -109,8 +109,8 @@ pub fn apply_within(mut a: Answered, e: Event) -> Answered
 }
 
 // Any event. Refused by 1, then an advance of all by 15, of one host by 5, 15 and 14, a start by 5,
-// 9, 11, 10 and 13, a delivery and a repeat by 12 and 13, a loss by 12, a restart by 5, in these
-// orders. A refused event hands back the same cell.
+// 9, 11, 10 and 13, a release by 5, 9, 18, 10 and 13, a delivery and a repeat by 12 and 13, a loss
+// by 12, a restart by 5, in these orders. A refused event hands back the same cell.
 pub fn apply(mut a: Answered, e: Event) -> Answered
     ensures { λ r. ⌜ r ≡ eventOf (cellOf a) e ⌝ }
 {

@@ -60,7 +60,7 @@ hosts-rise : (z : Sizes) (s : List ℕ) (lent : ℕ) → sizesFit z ≡ true →
     let f = numbersIn s k in
     Rising (placeIn lent k) 0 (kindLength k) (hostTests z f (ltb (f .target) (z .n)))
 unfolding Rising moreOf kindLength total offsetIn numbersIn valueIn numbersAt
-hosts-rise z s lent c = by-kind P head head lease value head value
+hosts-rise z s lent c = by-kind P head head lease value head value head
   where
     P : ℕ → Type 0
     P k =
@@ -88,7 +88,7 @@ hosts-rise z s lent c = by-kind P head head lease value head value
 ticks-rise : (s : List ℕ) (lent k : ℕ) → knownKind k ≡ true
     → Rising (placeIn lent k) 0 (kindLength k) (tickTests (numbersIn s k))
 unfolding Rising moreOf kindLength total offsetIn numbersIn valueIn numbersAt
-ticks-rise s lent = by-kind P head head lease proposal head learnt
+ticks-rise s lent = by-kind P head head lease proposal head learnt head
   where
     P : ℕ → Type 0
     P k = Rising (placeIn lent k) 0 (kindLength k) (tickTests (numbersIn s k))

@@ -18,7 +18,7 @@ use Rattle.message.specs.declared.Numbers.{Numbers}
 use Rattle.message.specs.declared.Message.{Message}
 use Rattle.message.specs.declared.Message.the-variants.{PrepareRequest, PrepareResponseEmpty}
 use Rattle.message.specs.declared.Message.the-variants.{PrepareResponseLease, ProposeRequest}
-use Rattle.message.specs.declared.Message.the-variants.{ProposeResponse, Learn}
+use Rattle.message.specs.declared.Message.the-variants.{ProposeResponse, Learn, ReleaseRequest}
 use Rattle.message.specs.Message.{lastTick, lastEnd, knownKind, numbersOf}
 use Rattle.message.specs.Faults.{sizesFit, faultOf}
 use Rattle.message.proofs.Laws.{fault-passed, kind-known, message-numbers}
@@ -91,6 +91,7 @@ kind-back (PrepareResponseLease m) t = refl
 kind-back (ProposeRequest m) t = refl
 kind-back (ProposeResponse h) t = refl
 kind-back (Learn m) t = refl
+kind-back (ReleaseRequest h) t = refl
 
 length-back : (m : Message) (t : List ℕ)
     → toldLength (frameOf m ++ t) ≡ kindLength (numbersOf m .kind)
@@ -101,6 +102,7 @@ length-back (PrepareResponseLease m) t = refl
 length-back (ProposeRequest m) t = refl
 length-back (ProposeResponse h) t = refl
 length-back (Learn m) t = refl
+length-back (ReleaseRequest h) t = refl
 
 pub frame-length : (m : Message) → length (frameOf m) ≡ kindLength (numbersOf m .kind)
 unfolding frameOf

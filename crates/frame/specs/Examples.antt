@@ -48,9 +48,9 @@ pub record Examples : Type 0 where
   pub zero-written : frameOf (proposal 0 0 0) ≡ proposalBytes 0 0 0
   pub zero-accepted : writeAnswer (sizes 1) (proposal 0 0 0) 24 ≡ done
   -- a length field of 0 is 17 in each kind
-  pub no-length : map (λ k. readOf (sizes 3) (0 ∷ 0 ∷ k ∷ 0 ∷ [])) (1 ∷ 2 ∷ 3 ∷ 4 ∷ 5 ∷ 6 ∷ [])
+  pub no-length : map (λ k. readOf (sizes 3) (0 ∷ 0 ∷ k ∷ 0 ∷ [])) (1 ∷ 2 ∷ 3 ∷ 4 ∷ 5 ∷ 6 ∷ 7 ∷ [])
       ≡ let short = Refused refusedShort 0 in
-      short ∷ short ∷ short ∷ short ∷ short ∷ short ∷ []
+      short ∷ short ∷ short ∷ short ∷ short ∷ short ∷ short ∷ []
   -- of two host numbers of n or more the first gives 5, at its offset, and alone each its own; the
   -- party of a response is its target
   pub hosts-refused : map (readOf (sizes 3))

@@ -9,6 +9,7 @@ use message::PREPARE_RESPONSE_EMPTY;
 use message::PREPARE_RESPONSE_LEASE;
 use message::PROPOSE_REQUEST;
 use message::PROPOSE_RESPONSE;
+use message::RELEASE_REQUEST;
 use message::Sizes;
 
 mod sample;
@@ -69,6 +70,7 @@ fn kinds() {
     one_kind(PROPOSE_REQUEST);
     one_kind(PROPOSE_RESPONSE);
     one_kind(LEARN);
+    one_kind(RELEASE_REQUEST);
 }
 
 fn read_sixteen(label: &[u8], bytes: &[u8; 16]) {
@@ -90,7 +92,7 @@ fn refused_readings() {
         b"read 2 cut, under 4 bytes",
         frame::read(sample::sizes(), &[15, 0, 1]),
     );
-    damaged(b"read 3 kind", 2, 7);
+    damaged(b"read 3 kind", 2, 8);
     damaged(b"read 17 short length", 0, 14);
     damaged(b"read 4 length", 0, 16);
     show::reading(
@@ -238,6 +240,7 @@ fn all_lengths() {
     lengths_of_kind(PROPOSE_REQUEST);
     lengths_of_kind(PROPOSE_RESPONSE);
     lengths_of_kind(LEARN);
+    lengths_of_kind(RELEASE_REQUEST);
 }
 
 fn main() {

@@ -11,7 +11,7 @@ use Rattle.message.specs.declared.Head.{Head}
 use Rattle.message.specs.declared.Message.{Message}
 use Rattle.message.specs.declared.Message.the-variants.{PrepareRequest, PrepareResponseEmpty}
 use Rattle.message.specs.declared.Message.the-variants.{PrepareResponseLease, ProposeRequest}
-use Rattle.message.specs.declared.Message.the-variants.{ProposeResponse, Learn}
+use Rattle.message.specs.declared.Message.the-variants.{ProposeResponse, Learn, ReleaseRequest}
 use Rattle.rules.specs.Rules.{isWaiting}
 use Rattle.state.specs.declared.Settings.{Settings}
 use Rattle.state.specs.declared.Proposing.{Proposing}
@@ -54,6 +54,7 @@ voted-message s h (PrepareResponseEmpty m) e = true-false (sym e)
 voted-message s h (PrepareResponseLease m) e = true-false (sym e)
 voted-message s h (ProposeRequest m) e = true-false (sym e)
 voted-message s h (Learn m) e = true-false (sym e)
+voted-message s h (ReleaseRequest m) e = true-false (sym e)
 
 step-message : (s : Settings) (h : Host) (m : Message) → eqb (receiveRefusal s h m) done ≡ true
     → isWaiting (h .clock) (h .wait) ≡ false → receiveOf s h m ≡ onMessage s h m

@@ -1,6 +1,6 @@
--- The outcomes of a host's step, one for each thing that a start or a message can do to a host. The
--- tree of a step is walked here, by `outcome`; what holds of every step is then said by a clause
--- for each outcome. Assumes nothing.
+-- The outcomes of a host's step, one for each thing that a start, a release or a message can do to
+-- a host. The tree of a step is walked here, by `outcome`; what holds of every step is then said by
+-- a clause for each outcome. Assumes nothing.
 use mathlib.Core.Path.{_≡_, refl}
 use mathlib.Core.Bool.{true, false}
 use Prim.Native.Nat.{ℕ}
@@ -14,13 +14,13 @@ use Rattle.message.specs.declared.LearnedLease.{LearnedLease}
 use Rattle.message.specs.declared.Message.{Message}
 use Rattle.message.specs.declared.Message.the-variants.{PrepareRequest, PrepareResponseEmpty}
 use Rattle.message.specs.declared.Message.the-variants.{PrepareResponseLease, ProposeRequest}
-use Rattle.message.specs.declared.Message.the-variants.{ProposeResponse, Learn}
+use Rattle.message.specs.declared.Message.the-variants.{ProposeResponse, Learn, ReleaseRequest}
 use Rattle.message.specs.Message.{isSame}
 use Rattle.rules.specs.declared.Accepted.{Accepted}
 use Rattle.rules.specs.declared.Promised.{Promised}
 use Rattle.rules.specs.declared.Holder.{Holder}
 use Rattle.rules.specs.Rules.{isWaiting, mayPromise, countsReply, hasEnded, actsOn, mayAccept}
-use Rattle.rules.specs.Rules.{afterAccept, isNamable, namedBy}
+use Rattle.rules.specs.Rules.{afterAccept, isNamable, mayLearn, namedBy, takesRelease}
 use Rattle.state.specs.declared.Settings.{Settings}
 use Rattle.state.specs.declared.Asking.{Asking}
 use Rattle.state.specs.declared.Proposing.{Proposing}
@@ -28,11 +28,12 @@ use Rattle.state.specs.declared.Round.{Round}
 use Rattle.host.specs.declared.Host.{Host}
 use Rattle.host.specs.declared.Stepped.{Stepped}
 use Rattle.host.specs.Steps.{quietWith, sendingWith, withRound, withVote, withNamed, headFrom}
-use Rattle.host.specs.Steps.{onStart, responseWith, onPrepareRequest, askingAfter}
+use Rattle.host.specs.Steps.{onStart, onRelease, responseWith, onPrepareRequest, askingAfter}
 use Rattle.host.specs.Steps.{proposedValue, onMajority, onCountedReply, onReply}
 use Rattle.host.specs.Steps.{onPrepareResponse, leaseOf, onProposeRequest, proposingAfter}
 use Rattle.host.specs.Steps.{holderOf, onNaming, onChosen, onCountedVote, onVote}
-use Rattle.host.specs.Steps.{onProposeResponse, learnedHolder, onLearn, onMessage, onDelivery}
+use Rattle.host.specs.Steps.{onProposeResponse, learnedHolder, onLearn, freedHost}
+use Rattle.host.specs.Steps.{onReleaseRequest, onMessage, onDelivery}
 use Rattle.host.specs.Claims.{Stays, namingHost}
 
 -- the message is a reply with this head that tells of this lease, or of none
@@ -41,15 +42,17 @@ pub data Reply : Message → Head → Accepted → Type 0 where
   lease : (m : LeaseResponse)
       → Reply (PrepareResponseLease m) (m .head) (Accepted.One (m .accepted))
 
--- what a host is handed: a start for so many ticks, or a message
+-- what a host is handed: a start for so many ticks, a release, or a message
 pub data Cause : Type 0 where
   begins : ℕ → Cause
+  letsGo : Cause
   gets : Message → Cause
 
 module _ (s : Settings) (h : Host) where
   -- the step that it takes then
   abbrev pub stepOn : Cause → Stepped
   stepOn (begins d) = onStart s h d
+  stepOn letsGo = onRelease s h
   stepOn (gets m) = onDelivery s h m
 
   -- what the host that names the holder of a chosen lease tells the others
@@ -100,6 +103,7 @@ module _ (s : Settings) (h : Host) (Known : Cause → Type 0) where
   pub data Outcome : Stepped → Type 0 where
     nothing : Outcome (quietWith h)
     begun : (d : ℕ) → Known (begins d) → Outcome (onStart s h d)
+    released : Known letsGo → Outcome (onRelease s h)
     promised :
         (m : Head) → Known (gets (PrepareRequest m)) → isWaiting (h .clock) (h .wait) ≡ false
         → mayPromise (h .state .promised) (m .ballot) ≡ true →
@@ -135,9 +139,12 @@ module _ (s : Settings) (h : Host) (Known : Cause → Type 0) where
         (news s h (holderOf s (proposingAfter p (d .sender)))) (othersOf (s .n) (h .number)))
     namedAlone : (p : Proposing) (d : Head) → Chosen p d
         → Outcome (quietWith (namingHost s h (proposingAfter p (d .sender))))
-    told : (m : LearnedLease) → Known (gets (Learn m)) → leb (m .end .0) (h .clock) ≡ false
+    told : (m : LearnedLease) → Known (gets (Learn m)) → mayLearn (h .number) (h .clock) m ≡ true
         → Outcome
         (quietWith (withNamed h (h .state .round) (namedBy (h .state .named) (learnedHolder m))))
+    freed :
+        (m : Head) → Known (gets (ReleaseRequest m)) → isWaiting (h .clock) (h .wait) ≡ false
+        → takesRelease (h .state .promised) (m .ballot) ≡ true → Outcome (quietWith (freedHost h m))
 
   -- ---- every step has one of them
 
@@ -188,7 +195,7 @@ module _ (s : Settings) (h : Host) (Known : Cause → Type 0) where
 
   on-message : (m : Message) → Known (gets m) → isWaiting (h .clock) (h .wait) ≡ false
       → Outcome (onMessage s h m)
-  unfolding onMessage onPrepareRequest onProposeRequest onLearn
+  unfolding onMessage onPrepareRequest onProposeRequest onLearn onReleaseRequest
   on-message (PrepareRequest m) g w =
       by-test Outcome (mayPromise (h .state .promised) (m .ballot)) _ _ (λ t. promised m g w t)
       (λ _. nothing)
@@ -201,11 +208,15 @@ module _ (s : Settings) (h : Host) (Known : Cause → Type 0) where
       (λ t. accepted m g w t) (λ _. nothing)
   on-message (ProposeResponse m) g w = vote m g (h .state .round) refl
   on-message (Learn m) g w =
-      by-test Outcome (leb (m .end .0) (h .clock)) _ _ (λ _. nothing) (λ t. told m g t)
+      by-test Outcome (mayLearn (h .number) (h .clock) m) _ _ (λ t. told m g t) (λ _. nothing)
+  on-message (ReleaseRequest m) g w =
+      by-test Outcome (takesRelease (h .state .promised) (m .ballot)) _ _ (λ t. freed m g w t)
+      (λ _. nothing)
 
   pub outcome : (c : Cause) → Known c → Outcome (stepOn s h c)
   unfolding onDelivery
   outcome (begins d) k = begun d k
+  outcome letsGo k = released k
   outcome (gets m) k =
       by-test Outcome (isWaiting (h .clock) (h .wait)) (quietWith h) (onMessage s h m)
       (λ _. nothing) (λ w. on-message m k w)
@@ -214,9 +225,10 @@ module _ (s : Settings) (h : Host) (Known : Cause → Type 0) where
 
 stays : {s : Settings} {h : Host} {Known : Cause → Type 0} {t : Stepped} → Outcome s h Known t
     → Stays h t
-unfolding onStart
+unfolding onStart onRelease
 stays nothing = record { number = refl; clock = refl; wait = refl }
 stays (begun d _) = record { number = refl; clock = refl; wait = refl }
+stays (released _) = record { number = refl; clock = refl; wait = refl }
 stays (promised m _ _ _) = record { number = refl; clock = refl; wait = refl }
 stays (heard a d r _ _) = record { number = refl; clock = refl; wait = refl }
 stays (proposed a d r _ _) = record { number = refl; clock = refl; wait = refl }
@@ -226,7 +238,8 @@ stays (countedVote p d _ _) = record { number = refl; clock = refl; wait = refl 
 stays (named p d _) = record { number = refl; clock = refl; wait = refl }
 stays (namedAlone p d _) = record { number = refl; clock = refl; wait = refl }
 stays (told m _ _) = record { number = refl; clock = refl; wait = refl }
+stays (freed m _ _ _) = record { number = refl; clock = refl; wait = refl }
 
--- whether a start is refused or not, and of every message
+-- whether a start or a release is refused or not, and of every message
 pub stays-step : (s : Settings) (h : Host) (c : Cause) → Stays h (stepOn s h c)
 stays-step s h c = stays (outcome s h (λ _. Unit {0}) c tt)

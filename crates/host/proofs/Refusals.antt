@@ -1,5 +1,5 @@
 -- What a step that refuses nothing tells of its host and of what it is handed, and that a reply of
--- a host that was counted changes nothing. Assumes nothing.
+-- a host that was counted changes nothing, nor a learn that names its receiver. Assumes nothing.
 use mathlib.Core.Path.{_≡_, refl, sym, ap, _∙_}
 use mathlib.Core.Bool.{Bool, true, false, cond, not}
 use mathlib.Core.List.{[]}
@@ -8,18 +8,19 @@ use native.Mathlib.Omega.{arith}
 use lib.Dec.{leb, eqb}
 use borrow.Author.Tests.{leb-true, eqb-true, eqb-false, not-true, eq-eqb}
 use Rattle.base.specs.Refusals.{done, firstOf, refusedCell, refusedWaiting, refusedDuration}
-use Rattle.base.specs.Refusals.{refusedSameTick, refusedClock}
+use Rattle.base.specs.Refusals.{refusedSameTick, refusedClock, refusedNotHolder}
 use Rattle.base.proofs.Tests.{by-test, first-passed, unless-passed}
 use Rattle.quorum.specs.Sets.{isIn}
 use Rattle.message.specs.declared.Head.{Head}
 use Rattle.message.specs.declared.LeaseResponse.{LeaseResponse}
+use Rattle.message.specs.declared.LearnedLease.{LearnedLease}
 use Rattle.message.specs.declared.Message.{Message}
 use Rattle.message.specs.declared.Message.the-variants.{PrepareResponseEmpty, PrepareResponseLease}
-use Rattle.message.specs.declared.Message.the-variants.{ProposeResponse}
+use Rattle.message.specs.declared.Message.the-variants.{ProposeResponse, Learn}
 use Rattle.message.specs.Message.{lastTick, isSame, numbersOf}
 use Rattle.message.specs.Faults.{faultOf}
 use Rattle.rules.specs.declared.Accepted.{Accepted}
-use Rattle.rules.specs.Rules.{isWaiting, isFresh}
+use Rattle.rules.specs.Rules.{isWaiting, isFresh, mayLearn, namesItself}
 use Rattle.rules.proofs.Laws.{awake}
 use Rattle.state.specs.declared.Settings.{Settings}
 use Rattle.state.specs.declared.Asking.{Asking}
@@ -29,9 +30,9 @@ use Rattle.state.specs.StateLimits.{durationOk, sizesOf}
 use Rattle.host.specs.declared.Host.{Host}
 use Rattle.host.specs.declared.Stepped.{Stepped}
 use Rattle.host.specs.Steps.{hostOk, refusedWith, quietWith, advanceRefusal, restartRefusal}
-use Rattle.host.specs.Steps.{startRefusal, onReply, onPrepareResponse, onVote}
-use Rattle.host.specs.Steps.{onProposeResponse, onMessage, onDelivery, receiveRefusal}
-use Rattle.host.specs.Steps.{receiveOf}
+use Rattle.host.specs.Steps.{startRefusal, releaseRefusal, onReply, onPrepareResponse}
+use Rattle.host.specs.Steps.{onVote, onProposeResponse, onLearn, onMessage, onDelivery}
+use Rattle.host.specs.Steps.{receiveRefusal, receiveOf}
 use Rattle.host.proofs.HostLimits.{HostIn, host-in}
 
 -- ---- where nothing is refused
@@ -71,6 +72,27 @@ start-in s h d e =
       some-time = omega (arith, some);
       duration = leb-true (d + s .spread) (s .longest) (p4 .0);
       fresh = p5 .0;
+    }
+
+pub record Releases (s : Settings) (h : Host) : Type 0 where
+  pub host : HostIn s h
+  pub awake : h .wait ≤ h .clock
+  pub itself : namesItself (h .number) (h .state .named) ≡ true
+  pub fresh : isFresh (h .state .last) (h .clock) ≡ true
+
+pub release-in : (s : Settings) (h : Host) → releaseRefusal s h ≡ done → Releases s h
+unfolding releaseRefusal
+release-in s h e =
+    let p1 = unless-passed (hostOk s h) refusedCell _ refl e in
+    let p2 = unless-passed (not (isWaiting (h .clock) (h .wait))) refusedWaiting _ refl (p1 .1) in
+    let p3 =
+    unless-passed (namesItself (h .number) (h .state .named)) refusedNotHolder _ refl (p2 .1) in
+    let p4 = unless-passed (isFresh (h .state .last) (h .clock)) refusedSameTick [] refl (p3 .1) in
+    record {
+      host = host-in s h (p1 .0);
+      awake = awake (h .clock) (h .wait) (not-true (isWaiting (h .clock) (h .wait)) (p2 .0));
+      itself = p3 .0;
+      fresh = p4 .0;
     }
 
 pub message-in : (s : Settings) (h : Host) (m : Message) → receiveRefusal s h m ≡ done → HostIn s h
@@ -149,3 +171,10 @@ unfolding onMessage onProposeResponse
 already-vote s h p m r e =
     still s h (ProposeResponse m)
     (ap (λ (x : Round). onProposeResponse s h x m) r ∙ voted-already s h p m e)
+
+-- ---- nor does a learn message that names its receiver
+
+pub own-learn : (s : Settings) (h : Host) (m : LearnedLease) → m .owner ≡ h .number
+    → receiveOf s h (Learn m) ≡ refusedWith (receiveRefusal s h (Learn m)) h
+unfolding onMessage onLearn mayLearn
+own-learn s h m e = still s h (Learn m) (rw (eq-eqb (m .owner) (h .number) e))

@@ -15,8 +15,8 @@ use Rattle.message.specs.declared.Head.{Head}
 use Rattle.message.specs.declared.Message.{Message}
 use Rattle.message.specs.declared.Message.the-variants.{PrepareRequest, PrepareResponseEmpty}
 use Rattle.message.specs.declared.Message.the-variants.{PrepareResponseLease, ProposeRequest}
-use Rattle.message.specs.declared.Message.the-variants.{ProposeResponse, Learn}
-use Rattle.message.specs.Message.{lastTick, numbersOf}
+use Rattle.message.specs.declared.Message.the-variants.{ProposeResponse, Learn, ReleaseRequest}
+use Rattle.message.specs.Message.{lastTick, prepareRequest, releaseRequest, isResponse, numbersOf}
 use Rattle.message.specs.Faults.{faultOf, faultTo}
 use Rattle.message.proofs.Laws.{fault-passed}
 use Rattle.rules.specs.declared.Accepted.{Accepted}
@@ -35,26 +35,28 @@ use Rattle.state.specs.StateLimits.{roundOk, namedOk, sizesOf}
 use Rattle.state.proofs.StateLimits.{settings-in, BallotIn, out-ballot, LeaseIn, out-accepted}
 use Rattle.state.proofs.StateLimits.{out-named, AskingIn, asking-in, out-asking, ProposingIn}
 use Rattle.state.proofs.StateLimits.{proposing-in, out-proposing, StateIn, state-in, out-state}
+use Rattle.state.specs.Releasing.{voteOf}
 use Rattle.state.proofs.Blank.{blank-fits}
 use Rattle.state.proofs.RulesKeep.{aged-in, kept-higher, kept-replied, value-in, kept-naming}
-use Rattle.state.proofs.RulesKeep.{own-last}
+use Rattle.state.proofs.RulesKeep.{own-last, kept-lease, kept-holder}
 use Rattle.host.specs.declared.Host.{Host}
 use Rattle.host.specs.declared.Stepped.{Stepped}
 use Rattle.host.specs.Steps.{lastWait, hostOk, refusedWith, quietWith, sendingWith, stepWith}
 use Rattle.host.specs.Steps.{withState, withRound, withVote, withNamed, advanceRefusal}
 use Rattle.host.specs.Steps.{advancedHost, advanceOf, restartRefusal, restartedHost}
-use Rattle.host.specs.Steps.{restartOf, startRefusal, onStart, startOf, askingAfter}
+use Rattle.host.specs.Steps.{restartOf, startRefusal, onStart, startOf, releaseRefusal}
+use Rattle.host.specs.Steps.{onRelease, releaseOf, askingAfter}
 use Rattle.host.specs.Steps.{proposedValue, leaseOf, proposingAfter, holderOf, learnedHolder}
 use Rattle.host.specs.Steps.{onDelivery, receiveRefusal, receiveOf}
 use Rattle.host.specs.Claims.{writes, Writable, Lawful, namingHost}
 use Rattle.host.proofs.HostLimits.{HostIn, out-host}
 use Rattle.host.proofs.Writable.{writes-request, writes-response, writes-proposal}
 use Rattle.host.proofs.Writable.{writes-vote, writes-learn}
-use Rattle.host.proofs.Refusals.{advance-in, restart-in, start-in, message-in}
-use Rattle.host.proofs.Outcomes.{Reply, empty, lease, Cause, begins, gets, stepOn, Heard}
-use Rattle.host.proofs.Outcomes.{Voted, Outcome, nothing, begun, promised, heard, proposed}
-use Rattle.host.proofs.Outcomes.{gaveUp, accepted, countedVote, named, namedAlone, told}
-use Rattle.host.proofs.Outcomes.{outcome, proposes}
+use Rattle.host.proofs.Refusals.{advance-in, restart-in, start-in, release-in, message-in}
+use Rattle.host.proofs.Outcomes.{Reply, empty, lease, Cause, begins, letsGo, gets, stepOn}
+use Rattle.host.proofs.Outcomes.{Heard, Voted, Outcome, nothing, begun, released, promised}
+use Rattle.host.proofs.Outcomes.{heard, proposed, gaveUp, accepted, countedVote, named}
+use Rattle.host.proofs.Outcomes.{namedAlone, told, freed, outcome, proposes}
 
 -- ---- a host with a part of it replaced
 
@@ -166,7 +168,7 @@ fine-restart s h i =
       state = blank-fits s (h .number);
     }))
 
--- ---- a start and a message
+-- ---- a start, a release and a message
 
 -- 0 hosts replied, and no lease is kept
 nobody-below : (n : ℕ) → isBelow 0 n ≡ true
@@ -184,9 +186,14 @@ promised-ok : (n : ℕ) (b : Ballot) → BallotIn n b → promisedOk n (Promised
 unfolding promisedOk
 promised-ok n b i = out-ballot n b i
 
--- the start is not refused; writing refuses nothing in the message
+nobody-ok : (n : ℕ) → namedOk n Named.Nobody ≡ true
+unfolding namedOk
+nobody-ok n = refl
+
+-- the start or the release is not refused; writing refuses nothing in the message
 abbrev pub Passes : Settings → Host → Cause → Type 0
 Passes s h (begins d) = startRefusal s h d ≡ done
+Passes s h letsGo = releaseRefusal s h ≡ done
 Passes s h (gets m) = faultOf (sizesOf s) (numbersOf m) ≡ done
 
 -- a reply in which nothing is refused
@@ -272,7 +279,7 @@ module _ (s : Settings) (h : Host) (i : HostIn s h) where
       )
 
   fine : {t : Stepped} → Outcome s h (Passes s h) t → Fine s t
-  unfolding numbersOf onStart
+  unfolding numbersOf isResponse onStart onRelease
   fine nothing = fine-quiet s h (out-host s h i)
   fine (begun d r) =
       let b = start-in s h d r .duration in
@@ -300,7 +307,19 @@ module _ (s : Settings) (h : Host) (i : HostIn s h) where
         round = a;
         named = held .named;
       }))
-      (writes-request s h (ballotAt (h .clock) (h .number)) i
+      (writes-request prepareRequest refl s h (ballotAt (h .clock) (h .number)) i
+      (record { tick = i .clock; host = i .number }) refl)
+  fine (released _) =
+      fine-sending s _ _ (everyoneOf (s .n))
+      (kept-state s h _ i
+      (record {
+        promised = held .promised;
+        accepted = held .accepted;
+        last = last-ok (h .clock) (i .clock);
+        round = idle-ok s (h .number);
+        named = nobody-ok (s .n);
+      }))
+      (writes-request releaseRequest refl s h (ballotAt (h .clock) (h .number)) i
       (record { tick = i .clock; host = i .number }) refl)
   fine (promised m g _ _) =
       let q = fault-passed (sizesOf s) (numbersOf (PrepareRequest m)) g in
@@ -370,6 +389,21 @@ module _ (s : Settings) (h : Host) (i : HostIn s h) where
       fine-quiet s _
       (kept-named s h (h .state .round) _ i (held .round)
       (kept-naming (s .n) (R.naming (learnedHolder m) (h .state .named)) (held .named) l))
+  fine (freed m g _ _) =
+      let q = fault-passed (sizesOf s) (numbersOf (ReleaseRequest m)) g in
+      let b : BallotIn (s .n) (m .ballot) = record { tick = q .ballotTick; host = q .ballotHost } in
+      let v = R.release-promises (voteOf (h .state)) m in
+      fine-quiet s _
+      (kept-state s h _ i
+      (record {
+        promised = rw (v .0) (promised-ok (s .n) (m .ballot) b);
+        accepted =
+            rw (v .1)
+            (kept-lease (s .n) (R.freed-lease m (h .state .accepted)) (held .accepted));
+        last = held .last;
+        round = held .round;
+        named = kept-holder (s .n) (R.freed-holder m (h .state .named)) (held .named);
+      }))
 
 -- ---- every step, refused or done
 
@@ -417,6 +451,13 @@ unfolding startOf
 lawful-start s h d =
     lawful s (startRefusal s h d) h (onStart s h d)
     (λ e. fine-step s h (begins d) (start-in s h d e .host) e)
+
+pub lawful-release : (s : Settings) (h : Host)
+    → Lawful s h (releaseRefusal s h) (onRelease s h) (releaseOf s h)
+unfolding releaseOf
+lawful-release s h =
+    lawful s (releaseRefusal s h) h (onRelease s h)
+    (λ e. fine-step s h letsGo (release-in s h e .host) e)
 
 pub lawful-message : (s : Settings) (h : Host) (m : Message)
     → Lawful s h (receiveRefusal s h m) (onDelivery s h m) (receiveOf s h m)

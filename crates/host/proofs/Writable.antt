@@ -14,9 +14,9 @@ use Rattle.message.specs.declared.HoldersEnd.{HoldersEnd}
 use Rattle.message.specs.declared.Head.{Head}
 use Rattle.message.specs.declared.Sizes.{Sizes}
 use Rattle.message.specs.declared.Message.{Message}
-use Rattle.message.specs.declared.Message.the-variants.{PrepareRequest, ProposeRequest}
+use Rattle.message.specs.declared.Message.the-variants.{ProposeRequest}
 use Rattle.message.specs.declared.Message.the-variants.{ProposeResponse, Learn}
-use Rattle.message.specs.Message.{lastEnd, prepareRequest, prepareResponseEmpty}
+use Rattle.message.specs.Message.{lastEnd, prepareResponseEmpty}
 use Rattle.message.specs.Message.{prepareResponseLease, proposeRequest, proposeResponse, learn}
 use Rattle.message.specs.Message.{isResponse, noBallot, noKeepers, noHolders, numbersWith}
 use Rattle.message.specs.Message.{numbersOf, addressedTo}
@@ -97,15 +97,16 @@ everyone-fits n = lt-ltb (everyoneOf n) (2 ^ n) (everyone-below n)
 others-fit : (n h : ℕ) → isBelow (othersOf n h) n ≡ true
 others-fit n h = lt-ltb (othersOf n h) (2 ^ n) (others-below n h)
 
--- a request of one's own ballot, to all
-pub writes-request : (s : Settings) (h : Host) (b : Ballot) → HostIn s h → BallotIn (s .n) b
-    → b .host ≡ h .number
-    → faultTo (sizesOf s) (numbersOf (PrepareRequest (headFrom h b))) (everyoneOf (s .n)) ≡ 0
-unfolding numbersOf isResponse partyFitsTo
-writes-request s h b i j e =
-    written (sizesOf s) prepareRequest (headFrom h b) noBallot 0 noKeepers noHolders
-    (everyoneOf (s .n)) (i .number) j (no-lease s h i) (omega arith) (everyone-fits (s .n))
-    (eq-eqb (h .number) (b .host) (sym e))
+-- a request of one's own ballot that has no more than its head, to all
+pub writes-request : (k : ℕ) → isResponse k ≡ false → (s : Settings) (h : Host) (b : Ballot)
+    → HostIn s h → BallotIn (s .n) b → b .host ≡ h .number
+    → faultTo (sizesOf s) (numbersWith k (headFrom h b) noBallot 0 noKeepers noHolders)
+    (everyoneOf (s .n)) ≡ 0
+unfolding partyFitsTo
+writes-request k r s h b i j e =
+    written (sizesOf s) k (headFrom h b) noBallot 0 noKeepers noHolders (everyoneOf (s .n))
+    (i .number) j (no-lease s h i) (omega arith) (everyone-fits (s .n))
+    (rw r (eq-eqb (h .number) (b .host) (sym e)))
 
 -- a reply to a ballot's host, empty or with the accepted lease
 pub writes-response : (s : Settings) (h : Host) (b : Ballot) (a : Accepted) → HostIn s h

@@ -10,10 +10,11 @@ use Rattle.base.specs.Lists.{allOf}
 use Rattle.quorum.specs.Sets.{isIn, withHost, Member}
 use Rattle.message.specs.declared.Head.{Head}
 use Rattle.message.specs.declared.LeaseResponse.{LeaseResponse}
+use Rattle.message.specs.declared.LearnedLease.{LearnedLease}
 use Rattle.message.specs.declared.Message.{Message}
 use Rattle.message.specs.declared.Message.the-variants.{PrepareRequest, PrepareResponseEmpty}
 use Rattle.message.specs.declared.Message.the-variants.{PrepareResponseLease, ProposeRequest}
-use Rattle.message.specs.declared.Message.the-variants.{ProposeResponse, Learn}
+use Rattle.message.specs.declared.Message.the-variants.{ProposeResponse, Learn, ReleaseRequest}
 use Rattle.message.specs.Message.{isSame, numbersOf, addressedTo}
 use Rattle.message.specs.Faults.{faultOf, faultTo}
 use Rattle.rules.specs.Rules.{isWaiting, countsReply, actsOn, isNamable, namedBy}
@@ -29,6 +30,7 @@ use Rattle.host.specs.Steps.{hostOk, refusedWith, quietWith, withNamed}
 use Rattle.host.specs.Steps.{advanceRefusal, advancedHost, advanceOf}
 use Rattle.host.specs.Steps.{restartRefusal, restartedHost, restartOf}
 use Rattle.host.specs.Steps.{startRefusal, onStart, startOf, holderOf}
+use Rattle.host.specs.Steps.{releaseRefusal, onRelease, releaseOf}
 use Rattle.host.specs.Steps.{onDelivery, receiveRefusal, receiveOf}
 
 -- ---- every step
@@ -81,6 +83,7 @@ isDecidingVote s h (PrepareResponseEmpty m) = false
 isDecidingVote s h (PrepareResponseLease m) = false
 isDecidingVote s h (ProposeRequest m) = false
 isDecidingVote s h (Learn m) = false
+isDecidingVote s h (ReleaseRequest m) = false
 
 -- the step is done, the host is not waiting, and its own majority names a holder by it
 unfoldable pub namedByMajority : Settings → Host → Message → Bool
@@ -105,6 +108,8 @@ pub record Claims : Type 0 where
       → Lawful s h (restartRefusal s h) (quietWith (restartedHost s h)) (restartOf s h)
   pub start : (s : Settings) (h : Host) (d : ℕ)
       → Lawful s h (startRefusal s h d) (onStart s h d) (startOf s h d)
+  pub release : (s : Settings) (h : Host)
+      → Lawful s h (releaseRefusal s h) (onRelease s h) (releaseOf s h)
   pub message : (s : Settings) (h : Host) (m : Message)
       → Lawful s h (receiveRefusal s h m) (onDelivery s h m) (receiveOf s h m)
   -- what a step sends is what writing accepts for each of its receivers
@@ -112,6 +117,7 @@ pub record Claims : Type 0 where
       → Writable s step → step .sent ≡ Sent.One m → Member (s .n) (step .receivers) h
       → faultOf (sizesOf s) (numbersOf (addressedTo m h)) ≡ done
   pub start-stays : (s : Settings) (h : Host) (d : ℕ) → Stays h (startOf s h d)
+  pub release-stays : (s : Settings) (h : Host) → Stays h (releaseOf s h)
   pub message-stays : (s : Settings) (h : Host) (m : Message) → Stays h (receiveOf s h m)
   -- a reply counts once: one of a host that is counted changes nothing and sends nothing
   pub empty-once : (s : Settings) (h : Host) (a : Asking) (m : Head)
@@ -123,6 +129,9 @@ pub record Claims : Type 0 where
   pub vote-once : (s : Settings) (h : Host) (p : Proposing) (m : Head)
       → h .state .round ≡ Round.Proposing p → isIn (p .replied) (m .sender) ≡ true
       → let r = ProposeResponse m in receiveOf s h r ≡ refusedWith (receiveRefusal s h r) h
+  -- a learn message that names its own receiver changes nothing, in every state
+  pub own-learn : (s : Settings) (h : Host) (m : LearnedLease) → m .owner ≡ h .number
+      → let r = Learn m in receiveOf s h r ≡ refusedWith (receiveRefusal s h r) h
   -- a naming by its own majority ends the host's proposing round and names the owner of its
   -- proposal
   pub majority-names : (s : Settings) (h : Host) (m : Message) → namedByMajority s h m ≡ true

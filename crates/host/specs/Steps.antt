@@ -1,11 +1,11 @@
--- The steps of one host, in document 01's order: what is refused and what is done, apart. Assumes
--- nothing.
+-- The steps of one host, in document 01's order, with document 02's release: what is refused and
+-- what is done, apart. Assumes nothing.
 use Prim.Native.Nat.{ℕ, _+_, _^_}
 use mathlib.Core.Bool.{Bool, cond, not}
 use mathlib.Core.List.{[], _∷_}
 use lib.Dec.{ltb, leb, eqb}
 use Rattle.base.specs.Refusals.{done, unless, firstOf, refusedCell, refusedParty, refusedWaiting}
-use Rattle.base.specs.Refusals.{refusedSameTick, refusedDuration, refusedClock}
+use Rattle.base.specs.Refusals.{refusedSameTick, refusedDuration, refusedClock, refusedNotHolder}
 use Rattle.base.specs.Lists.{allOf}
 use Rattle.quorum.specs.Sets.{singleOf, withHost, everyoneOf, othersOf}
 use Rattle.message.specs.declared.Ballot.{Ballot}
@@ -16,7 +16,7 @@ use Rattle.message.specs.declared.LearnedLease.{LearnedLease}
 use Rattle.message.specs.declared.Message.{Message}
 use Rattle.message.specs.declared.Message.the-variants.{PrepareRequest, PrepareResponseEmpty}
 use Rattle.message.specs.declared.Message.the-variants.{PrepareResponseLease, ProposeRequest}
-use Rattle.message.specs.declared.Message.the-variants.{ProposeResponse, Learn}
+use Rattle.message.specs.declared.Message.the-variants.{ProposeResponse, Learn, ReleaseRequest}
 use Rattle.message.specs.Message.{lastTick, isSame, toHolders, numbersOf, headWith, targetOf}
 use Rattle.message.specs.Faults.{faultOf}
 use Rattle.rules.specs.declared.Accepted.{Accepted}
@@ -27,7 +27,8 @@ use Rattle.rules.specs.declared.Holder.{Holder}
 use Rattle.rules.specs.declared.Value.{Value}
 use Rattle.rules.specs.Rules.{isWaiting, waitEnd, ballotAt, isFresh, mayPromise, countsReply}
 use Rattle.rules.specs.Rules.{hasEnded, higherOf, actsOn, ownEnd, valueToPropose, mayAccept}
-use Rattle.rules.specs.Rules.{afterAccept, isNamable, namedBy}
+use Rattle.rules.specs.Rules.{afterAccept, isNamable, mayLearn, namedBy, namesItself}
+use Rattle.rules.specs.Rules.{takesRelease}
 use Rattle.state.specs.declared.Settings.{Settings}
 use Rattle.state.specs.declared.Asking.{Asking}
 use Rattle.state.specs.declared.Proposing.{Proposing}
@@ -36,6 +37,7 @@ use Rattle.state.specs.declared.State.{State}
 use Rattle.state.specs.StateLimits.{settingsOk, durationOk, stateOk, sizesOf}
 use Rattle.state.specs.Ageing.{agedAt}
 use Rattle.state.specs.Blank.{blankState}
+use Rattle.state.specs.Releasing.{releasedAt, freedBy}
 use Rattle.host.specs.declared.Host.{Host}
 use Rattle.host.specs.declared.Sent.{Sent}
 use Rattle.host.specs.declared.Stepped.{Stepped}
@@ -206,6 +208,31 @@ onStart s h d =
 unfoldable pub startOf : Settings → Host → ℕ → Stepped
 startOf s h d = stepWith (startRefusal s h d) h (onStart s h d)
 
+-- ---- release: 1, 9, 18, 10
+
+unfoldable pub releaseRefusal : Settings → Host → ℕ
+releaseRefusal s h =
+    firstOf (
+    unless (hostOk s h) refusedCell
+    ∷ unless (not (isWaiting (h .clock) (h .wait))) refusedWaiting
+    ∷ unless (namesItself (h .number) (h .state .named)) refusedNotHolder
+    ∷ unless (isFresh (h .state .last) (h .clock)) refusedSameTick
+    ∷ []
+    )
+
+-- 'it stops naming itself, drops its round, takes a ballot'
+abbrev pub releasingHost : Host → Host
+releasingHost h = withState h (releasedAt (h .clock) (h .state))
+
+-- 'and sends a release request .. to all n'
+unfoldable pub onRelease : Settings → Host → Stepped
+onRelease s h =
+    sendingWith (releasingHost h) (ReleaseRequest (headFrom h (ballotAt (h .clock) (h .number))))
+    (everyoneOf (s .n))
+
+unfoldable pub releaseOf : Settings → Host → Stepped
+releaseOf s h = stepWith (releaseRefusal s h) h (onRelease s h)
+
 -- ---- prepare request
 
 -- 'reply with the accepted lease, or empty'
@@ -346,11 +373,24 @@ onProposeResponse s h (Round.Proposing p) m = onVote s h p m
 abbrev pub learnedHolder : LearnedLease → Holder
 learnedHolder m = record { ballot = m .head .ballot; owner = m .owner; end = m .end }
 
--- 'nothing if its end is at or below the clock. Else name the owner'
+-- 'nothing if its end is at or below the clock', or if it 'names its own receiver' (02). 'Else name
+-- the owner'
 unfoldable pub onLearn : Host → LearnedLease → Stepped
 onLearn h m =
-    cond (leb (m .end .0) (h .clock)) (quietWith h)
+    cond (mayLearn (h .number) (h .clock) m)
     (quietWith (withNamed h (h .state .round) (namedBy (h .state .named) (learnedHolder m))))
+    (quietWith h)
+
+-- ---- release request
+
+abbrev pub freedHost : Host → Head → Host
+freedHost h m = withState h (freedBy m (h .state))
+
+-- 'ignores it below its promise; else it promises that ballot, and drops an accepted lease or named
+-- holder owned by the sender if its ballot is lower. No reply is sent'
+unfoldable pub onReleaseRequest : Host → Head → Stepped
+onReleaseRequest h m =
+    cond (takesRelease (h .state .promised) (m .ballot)) (quietWith (freedHost h m)) (quietWith h)
 
 -- ---- a message, by its kind
 
@@ -362,6 +402,7 @@ onMessage s h (PrepareResponseLease m) =
 onMessage s h (ProposeRequest m) = onProposeRequest h m
 onMessage s h (ProposeResponse m) = onProposeResponse s h (h .state .round) m
 onMessage s h (Learn m) = onLearn h m
+onMessage s h (ReleaseRequest m) = onReleaseRequest h m
 
 -- 'a waiting host does nothing'
 unfoldable pub onDelivery : Settings → Host → Message → Stepped

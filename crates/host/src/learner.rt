@@ -30,14 +30,15 @@ impl Host {
         sending_with(after, m, quorum::others_of(s.n, self.number))
     }
 
-    // A holder whose end is to come is named, unless one of a ballot as high is named already.
+    // Another host whose lease's end is to come is named, unless one of a ballot as high is named
+    // already.
     pub(super) fn on_learn(self, m: LearnedLease) -> Stepped
         ensures { λ r. ⌜ r ≡ onLearn self m ⌝ }
     {
-        let end = m.end;
-        if end.0 <= self.clock {
+        if !rules::may_learn(self.number, self.clock, m) {
             return quiet_with(self);
         }
+        let end = m.end;
         let ballot = m.head.ballot;
         let holder = Holder {
             ballot,

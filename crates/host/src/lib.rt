@@ -7,16 +7,18 @@ ghost use Prim.Native.Nat.{_+_, _≤_};
 ghost use Rattle.message.specs.declared.Message.the-variants.{PrepareRequest, PrepareResponseEmpty};
 ghost use Rattle.message.specs.declared.Message.the-variants.{PrepareResponseLease, ProposeRequest};
 ghost use Rattle.message.specs.declared.Message.the-variants.{ProposeResponse, Learn};
+ghost use Rattle.message.specs.declared.Message.the-variants.{ReleaseRequest};
 ghost use Rattle.message.specs.Message.{lastTick};
 ghost use Rattle.host.specs.Parts.{Handed};
 ghost use Rattle.host.specs.Steps.{hostOk, unsentWith, refusedWith, quietWith, sendingWith};
 ghost use Rattle.host.specs.Steps.{withState, withRound, withVote, withNamed, headFrom};
 ghost use Rattle.host.specs.Steps.{advancedHost, advanceOf, restartedHost, restartOf};
-ghost use Rattle.host.specs.Steps.{startOf, onMessage, onDelivery, receiveOf};
+ghost use Rattle.host.specs.Steps.{startOf, releaseOf, onMessage, onDelivery, receiveOf};
 use base::DONE;
 use base::REFUSED_CELL;
 use base::REFUSED_CLOCK;
 use base::REFUSED_DURATION;
+use base::REFUSED_NOT_HOLDER;
 use base::REFUSED_PARTY;
 use base::REFUSED_SAME_TICK;
 use base::REFUSED_WAITING;
@@ -37,6 +39,7 @@ use state::State;
 mod acceptor;
 mod learner;
 mod proposer;
+mod releaser;
 
 // The last end of a wait, 2^48 + 2^32.
 pub const LAST_WAIT: u64 = 281479271677952;
@@ -271,6 +274,29 @@ impl Host {
         }
         self.on_start(s, duration)
     }
+
+    // Gives the lease back early: the host stops naming itself, drops its round, and a release
+    // request goes to all hosts. Refused by 1, 9, 18 and 10, in this order.
+    pub fn release(self, s: Settings) -> Stepped
+        ensures { λ r. ⌜ r ≡ releaseOf s self ⌝ }
+    {
+        if !host_ok(s, self) {
+            return refused_with(REFUSED_CELL, self);
+        }
+        if rules::is_waiting(self.clock, self.wait) {
+            return refused_with(REFUSED_WAITING, self);
+        }
+        let t = self.state;
+        let named = t.named;
+        if !rules::names_itself(self.number, named) {
+            return refused_with(REFUSED_NOT_HOLDER, self);
+        }
+        let last = t.last;
+        if !rules::is_fresh(last, self.clock) {
+            return refused_with(REFUSED_SAME_TICK, self);
+        }
+        self.on_release(s)
+    }
 }
 
 impl Host {
@@ -292,6 +318,7 @@ impl Host {
             Message::ProposeRequest(p) => self.on_propose_request(p),
             Message::ProposeResponse(h) => self.on_propose_response(s, h),
             Message::Learn(l) => self.on_learn(l),
+            Message::ReleaseRequest(h) => self.on_release_request(h),
         }
     }
 
@@ -366,11 +393,19 @@ impl Host {
         self.receive(s, Message::ProposeResponse(m))
     }
 
-    // Names the owner of a lease whose holder's end is to come, unless it names one of a ballot as
-    // high. Refused as `receive`.
+    // Names another host whose lease's end is to come, unless it names one of a ballot as high.
+    // Refused as `receive`.
     pub fn learn(self, s: Settings, m: LearnedLease) -> Stepped
         ensures { λ r. ⌜ r ≡ receiveOf s self (Learn m) ⌝ }
     {
         self.receive(s, Message::Learn(m))
+    }
+
+    // Promises a ballot that is not below its promise, and drops an accepted lease or named holder
+    // that is the sender's and has a lower one. Refused as `receive`.
+    pub fn release_request(self, s: Settings, m: Head) -> Stepped
+        ensures { λ r. ⌜ r ≡ receiveOf s self (ReleaseRequest m) ⌝ }
+    {
+        self.receive(s, Message::ReleaseRequest(m))
     }
 }

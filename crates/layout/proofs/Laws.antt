@@ -18,7 +18,7 @@ use Rattle.message.specs.declared.Numbers.{Numbers}
 use Rattle.message.specs.declared.Message.{Message}
 use Rattle.message.specs.declared.Message.the-variants.{PrepareRequest, PrepareResponseEmpty}
 use Rattle.message.specs.declared.Message.the-variants.{PrepareResponseLease, ProposeRequest}
-use Rattle.message.specs.declared.Message.the-variants.{ProposeResponse, Learn}
+use Rattle.message.specs.declared.Message.the-variants.{ProposeResponse, Learn, ReleaseRequest}
 use Rattle.message.specs.Message.{prepareResponseLease, proposeRequest, learn, knownKind, numbersOf}
 use Rattle.message.specs.Message.{messageOf, isResponse}
 use Rattle.message.specs.Faults.{Field, settings, lentBytes, frameLength, kindNumber, sender}
@@ -43,7 +43,7 @@ pub length-most : (k : ℕ) → knownKind k ≡ true → kindLength k ≤ mostLe
 unfolding kindLength moreOf total
 length-most =
     by-kind (λ (k : ℕ). kindLength k ≤ mostLength) (lit≤ tt) (lit≤ tt) (lit≤ tt) (lit≤ tt) (lit≤ tt)
-    (lit≤ tt)
+    (lit≤ tt) (lit≤ tt)
 
 -- what follows the head, by the three tests of the kind
 abbrev moreBy : Bool → Bool → Bool → List Field
@@ -240,6 +240,7 @@ fits (ProposeRequest m) h =
 fits (ProposeResponse m) h = common-fits _ [] (lit< tt) (lit< tt) h tt
 fits (Learn m) h =
     common-fits _ (moreOf learn) (lit< tt) (lit< tt) h (h .owner, (h .holdersEnd, tt))
+fits (ReleaseRequest m) h = common-fits _ [] (lit< tt) (lit< tt) h tt
 
 from-values : (m : Message) →
     let f = numbersOf m in
@@ -251,6 +252,7 @@ from-values (PrepareResponseLease m) = refl
 from-values (ProposeRequest m) = refl
 from-values (ProposeResponse m) = refl
 from-values (Learn m) = refl
+from-values (ReleaseRequest m) = refl
 
 -- what was written is read, whatever follows
 pub numbers-back : (m : Message) (t : List ℕ) → Fit (numbersOf m)
@@ -267,7 +269,7 @@ pub message-back : (s : List ℕ) (k : ℕ) → knownKind k ≡ true
 unfolding numbersIn moreOf valueIn numbersAt numbersOf messageOf
 message-back s =
     by-kind (λ (k : ℕ). numbersOf (messageOf (numbersIn s k)) ≡ numbersIn s k) refl refl refl refl
-    refl refl
+    refl refl refl
 
 module _ (s : List ℕ) where
   values-in : (k : ℕ) → knownKind k ≡ true → numberAt s 2 2 ≡ k → numberAt s 0 2 ≡ kindLength k
@@ -278,6 +280,7 @@ module _ (s : List ℕ) where
       (λ (k : ℕ).
       numberAt s 2 2 ≡ k → numberAt s 0 2 ≡ kindLength k
       → map (valueOf (numbersIn s k)) (fieldsOf k) ≡ numbersAt s 0 (widths (fieldsOf k)))
+      (λ a l. rw (a, l))
       (λ a l. rw (a, l))
       (λ a l. rw (a, l))
       (λ a l. rw (a, l))

@@ -1,5 +1,5 @@
--- What is claimed of the lines of a run file, before any digits; proofs/Claims.antt proves it. That
--- every event line names at most one holder is claimed in the crate `agreement`. Assumes nothing.
+-- What is claimed of the lines of a run file, before any digits; proofs/Claims.antt proves it. What
+-- event lines show of demand 3 is claimed in the crate `agreement`. Assumes nothing.
 use mathlib.Core.Path.{_≡_}
 use Prim.Native.Nat.{ℕ, suc, _+_}
 use mathlib.Core.List.{List, [], _∷_, _++_}

@@ -20,10 +20,12 @@ use Rattle.message.specs.declared.Message.{Message}
 use Rattle.message.specs.declared.Message.the-variants.{PrepareRequest, PrepareResponseEmpty}
 use Rattle.message.specs.declared.Message.the-variants.{PrepareResponseLease, ProposeRequest}
 use Rattle.message.specs.declared.Message.the-variants.{ProposeResponse, Learn}
+use Rattle.message.specs.declared.Message.the-variants.{ReleaseRequest}
 use Rattle.message.specs.Message.{lastTick, lastEnd, isAbove, prepareRequest}
 use Rattle.message.specs.Message.{prepareResponseEmpty, prepareResponseLease, proposeRequest}
-use Rattle.message.specs.Message.{proposeResponse, learn, knownKind, isResponse, numbersOf}
-use Rattle.message.specs.Message.{messageOf, withTarget, addressedTo, targetOf}
+use Rattle.message.specs.Message.{proposeResponse, learn, releaseRequest, knownKind}
+use Rattle.message.specs.Message.{isResponse, numbersOf, messageOf, withTarget, addressedTo}
+use Rattle.message.specs.Message.{targetOf}
 use Rattle.message.specs.Faults.{hostTests, tickTests, messageRefusals, partyFits, faultOf}
 use Rattle.message.specs.Faults.{partyFitsTo, faultTo}
 
@@ -62,6 +64,7 @@ message-numbers (PrepareResponseLease m) = refl
 message-numbers (ProposeRequest m) = refl
 message-numbers (ProposeResponse h) = refl
 message-numbers (Learn m) = refl
+message-numbers (ReleaseRequest h) = refl
 
 -- another target changes nothing else
 pub numbers-to : (m : Message) (h : ℕ) → numbersOf (addressedTo m h) ≡ withTarget (numbersOf m) h
@@ -72,25 +75,35 @@ numbers-to (PrepareResponseLease m) h = refl
 numbers-to (ProposeRequest m) h = refl
 numbers-to (ProposeResponse _) h = refl
 numbers-to (Learn m) h = refl
+numbers-to (ReleaseRequest _) h = refl
 
 -- ---- kinds
 
--- what holds of each of the six kinds holds of every number that is a kind
+-- what holds of each of the seven kinds holds of every number that is a kind
 pub by-kind : (P : ℕ → Type 0) → P prepareRequest → P prepareResponseEmpty → P prepareResponseLease
-    → P proposeRequest → P proposeResponse → P learn → (k : ℕ) → knownKind k ≡ true → P k
+    → P proposeRequest → P proposeResponse → P learn → P releaseRequest → (k : ℕ)
+    → knownKind k ≡ true → P k
 unfolding knownKind
-by-kind P a b c d e f zero h =
+by-kind P a b c d e f g zero h =
     absurd
-    (omega (arith, leb-true prepareRequest 0 (both (leb prepareRequest 0) (leb 0 learn) h .0)))
-by-kind P a b c d e f (suc zero) h = a
-by-kind P a b c d e f (suc (suc zero)) h = b
-by-kind P a b c d e f (suc (suc (suc zero))) h = c
-by-kind P a b c d e f (suc (suc (suc (suc zero)))) h = d
-by-kind P a b c d e f (suc (suc (suc (suc (suc zero))))) h = e
-by-kind P a b c d e f (suc (suc (suc (suc (suc (suc zero)))))) h = f
-by-kind P a b c d e f (suc (suc (suc (suc (suc (suc (suc k))))))) h =
-    let n : ℕ = suc (suc (suc (suc (suc (suc (suc k)))))) in
-    absurd (omega (arith, leb-true n learn (both (leb prepareRequest n) (leb n learn) h .1)))
+    (omega (
+      arith,
+      leb-true prepareRequest 0 (both (leb prepareRequest 0) (leb 0 releaseRequest) h .0),
+    ))
+by-kind P a b c d e f g (suc zero) h = a
+by-kind P a b c d e f g (suc (suc zero)) h = b
+by-kind P a b c d e f g (suc (suc (suc zero))) h = c
+by-kind P a b c d e f g (suc (suc (suc (suc zero)))) h = d
+by-kind P a b c d e f g (suc (suc (suc (suc (suc zero))))) h = e
+by-kind P a b c d e f g (suc (suc (suc (suc (suc (suc zero)))))) h = f
+by-kind P a b c d e f g (suc (suc (suc (suc (suc (suc (suc zero))))))) h = g
+by-kind P a b c d e f g (suc (suc (suc (suc (suc (suc (suc (suc k)))))))) h =
+    let n : ℕ = suc (suc (suc (suc (suc (suc (suc (suc k))))))) in
+    absurd
+    (omega (
+      arith,
+      leb-true n releaseRequest (both (leb prepareRequest n) (leb n releaseRequest) h .1),
+    ))
 
 pub kind-known : (m : Message) → knownKind (numbersOf m .kind) ≡ true
 unfolding knownKind numbersOf
@@ -100,6 +113,7 @@ kind-known (PrepareResponseLease m) = refl
 kind-known (ProposeRequest m) = refl
 kind-known (ProposeResponse h) = refl
 kind-known (Learn m) = refl
+kind-known (ReleaseRequest h) = refl
 
 -- ---- what is refused in a message
 

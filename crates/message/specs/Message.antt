@@ -11,6 +11,7 @@ use Rattle.message.specs.declared.Message.{Message}
 use Rattle.message.specs.declared.Message.the-variants.{PrepareRequest, PrepareResponseEmpty}
 use Rattle.message.specs.declared.Message.the-variants.{PrepareResponseLease, ProposeRequest}
 use Rattle.message.specs.declared.Message.the-variants.{ProposeResponse, Learn}
+use Rattle.message.specs.declared.Message.the-variants.{ReleaseRequest}
 
 -- ---- ticks and ends
 
@@ -57,9 +58,12 @@ proposeResponse = 5
 abbrev pub learn : ℕ
 learn = 6
 
+abbrev pub releaseRequest : ℕ
+releaseRequest = 7
+
 -- whether a number is a kind
 unfoldable pub knownKind : ℕ → Bool
-knownKind k = leb prepareRequest k && leb k learn
+knownKind k = leb prepareRequest k && leb k releaseRequest
 
 -- the kinds that answer a request: their target is the ballot's host, and of any other kind the
 -- sender is
@@ -105,12 +109,13 @@ numbersOf (ProposeRequest m) =
     numbersWith proposeRequest (m .head) noBallot (m .owner) (m .end) noHolders
 numbersOf (ProposeResponse h) = numbersWith proposeResponse h noBallot 0 noKeepers noHolders
 numbersOf (Learn m) = numbersWith learn (m .head) noBallot (m .owner) noKeepers (m .end)
+numbersOf (ReleaseRequest h) = numbersWith releaseRequest h noBallot 0 noKeepers noHolders
 
 abbrev pub headOf : Numbers → Head
 headOf f = headWith (f .sender) (f .target) (f .ballot)
 
--- the message that numbers of a kind are of; a number that is no kind is taken as a learn
--- message's, and callers have refused it before, by 3
+-- the message that numbers of a kind are of; a number that is no kind is taken as a
+-- release request's, and callers have refused it before, by 3
 unfoldable pub messageOf : Numbers → Message
 messageOf f =
     cond (eqb (f .kind) prepareRequest) (PrepareRequest (headOf f))
@@ -124,7 +129,9 @@ messageOf f =
     (cond (eqb (f .kind) proposeRequest)
     (ProposeRequest (record { head = headOf f; owner = f .owner; end = f .keepers }))
     (cond (eqb (f .kind) proposeResponse) (ProposeResponse (headOf f))
-    (Learn (record { head = headOf f; owner = f .owner; end = f .holders }))))))
+    (cond (eqb (f .kind) learn)
+    (Learn (record { head = headOf f; owner = f .owner; end = f .holders }))
+    (ReleaseRequest (headOf f)))))))
 
 -- the same to another target
 abbrev pub withTarget : Numbers → ℕ → Numbers

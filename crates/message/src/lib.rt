@@ -1,4 +1,4 @@
-// Ballots, the two ends of a lease, the six messages, their kinds, and what is refused in a
+// Ballots, the two ends of a lease, the seven messages, their kinds, and what is refused in a
 // message: 5, 6 and 7.
 ghost use mathlib.Core.Path.{_≡_};
 ghost use Prim.Native.Nat.{_+_, _-_, _≤_};
@@ -128,7 +128,7 @@ pub struct LearnedLease {
     pub end: HoldersEnd,
 }
 
-// The six messages, in the order of their kinds.
+// The seven messages, in the order of their kinds.
 pub enum Message {
     PrepareRequest(Head),
     PrepareResponseEmpty(Head),
@@ -136,6 +136,7 @@ pub enum Message {
     ProposeRequest(Proposal),
     ProposeResponse(Head),
     Learn(LearnedLease),
+    ReleaseRequest(Head),
 }
 
 // The kinds of message by number.
@@ -151,11 +152,13 @@ pub const PROPOSE_RESPONSE: u16 = 5;
 
 pub const LEARN: u16 = 6;
 
+pub const RELEASE_REQUEST: u16 = 7;
+
 // Whether a number is a kind.
 pub fn known_kind(kind: u16) -> bool
     ensures { λ r. ⌜ r ≡ knownKind kind ⌝ }
 {
-    (PREPARE_REQUEST <= kind) & (kind <= LEARN)
+    (PREPARE_REQUEST <= kind) & (kind <= RELEASE_REQUEST)
 }
 
 // Whether a kind answers a request. A response's target is the ballot's host; of any other kind the
@@ -260,6 +263,14 @@ pub fn numbers_of(m: Message) -> Numbers
             no_holders,
         ),
         Message::Learn(l) => numbers_with(LEARN, l.head, none, l.owner, no_keepers, l.end),
+        Message::ReleaseRequest(h) => numbers_with(
+            RELEASE_REQUEST,
+            h,
+            none,
+            0,
+            no_keepers,
+            no_holders,
+        ),
     }
 }
 
@@ -272,7 +283,7 @@ pub fn head_of(f: Numbers) -> Head
 }
 
 // The message that numbers of a kind are of; those that the kind lacks are not looked at. A number
-// that is no kind is taken as a learn message: callers have refused it before, by 3.
+// that is no kind is taken as a release request: callers have refused it before, by 3.
 pub fn message_of(f: Numbers) -> Message
     ensures { λ r. ⌜ r ≡ messageOf f ⌝ }
 {
@@ -299,11 +310,12 @@ pub fn message_of(f: Numbers) -> Message
             end: keepers,
         }),
         PROPOSE_RESPONSE => Message::ProposeResponse(head),
-        _ => Message::Learn(LearnedLease {
+        LEARN => Message::Learn(LearnedLease {
             head,
             owner,
             end: holders,
         }),
+        _ => Message::ReleaseRequest(head),
     }
 }
 

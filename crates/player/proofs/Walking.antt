@@ -19,7 +19,7 @@ use Rattle.slots.specs.Slots.{isEmpty, empties}
 use Rattle.cell.specs.declared.Cell.{Cell}
 use Rattle.cell.specs.declared.Event.{Event}
 use Rattle.cell.specs.declared.Event.the-variants.{AdvanceAll, AdvanceOne, Start, Deliver, Lose}
-use Rattle.cell.specs.declared.Event.the-variants.{Repeat, Restart}
+use Rattle.cell.specs.declared.Event.the-variants.{Repeat, Restart, Release}
 use Rattle.cell.specs.declared.Answered.{Answered}
 use Rattle.cell.specs.Events.{answeredWith, cellOf, eventOf}
 use Rattle.cell.specs.Claims.{Sound}
@@ -131,6 +131,7 @@ watched-most (Deliver i) n = omega arith
 watched-most (Lose i) n = omega arith
 watched-most (Repeat i) n = omega arith
 watched-most (Restart h) n = omega arith
+watched-most (Release h) n = omega arith
 
 -- what the `else` of a `let .. else` knows of a record: the number of its variant
 abbrev pub NoEvent : Record → Type 0

@@ -21,7 +21,7 @@ use Rattle.state.specs.declared.Settings.{Settings}
 use Rattle.state.specs.StateLimits.{lastLongest}
 use Rattle.cell.specs.declared.Event.{Event}
 use Rattle.cell.specs.declared.Event.the-variants.{AdvanceAll, AdvanceOne, Start, Deliver}
-use Rattle.cell.specs.declared.Event.the-variants.{Lose, Repeat, Restart}
+use Rattle.cell.specs.declared.Event.the-variants.{Lose, Repeat, Restart, Release}
 use Rattle.record.specs.declared.Head.{Head}
 use Rattle.record.specs.declared.Record.{Record}
 use Rattle.record.specs.declared.First.{First}
@@ -41,6 +41,7 @@ kind-small (Deliver i) = lit< tt
 kind-small (Lose i) = lit< tt
 kind-small (Repeat i) = lit< tt
 kind-small (Restart h) = lit< tt
+kind-small (Release h) = lit< tt
 
 -- what holds of the four forms of a record holds of each kind's
 by-form : (P : List ℕ → Type 0) (k : ℕ) → P (1 ∷ 4 ∷ 4 ∷ 8 ∷ []) → P (4 ∷ []) → P (1 ∷ 4 ∷ [])

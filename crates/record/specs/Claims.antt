@@ -11,7 +11,7 @@ use Rattle.layout.specs.Layout.{placeIn, foreLength}
 use Rattle.state.specs.declared.Settings.{Settings}
 use Rattle.cell.specs.declared.Event.{Event}
 use Rattle.cell.specs.declared.Event.the-variants.{AdvanceAll, AdvanceOne, Start, Deliver}
-use Rattle.cell.specs.declared.Event.the-variants.{Lose, Repeat, Restart}
+use Rattle.cell.specs.declared.Event.the-variants.{Lose, Repeat, Restart, Release}
 use Rattle.cell.specs.Events.{openingRefusals, openingRefusal}
 use Rattle.record.specs.declared.Record.{Record}
 use Rattle.record.specs.declared.First.{First}
@@ -36,9 +36,9 @@ offsetsIn first = map (λ (s : List ℕ). faultOffset first s 0)
 -- those whose length is too long and too short by 2. The last is whole
 abbrev pub eventEntries : List (List ℕ)
 eventEntries =
-    (6 ∷ 0 ∷ 108 ∷ [])
-    ∷ (6 ∷ 0 ∷ 108 ∷ 0 ∷ [])
-    ∷ (4 ∷ 0 ∷ 108 ∷ 0 ∷ [])
+    (6 ∷ 0 ∷ 109 ∷ [])
+    ∷ (6 ∷ 0 ∷ 109 ∷ 0 ∷ [])
+    ∷ (4 ∷ 0 ∷ 109 ∷ 0 ∷ [])
     ∷ (6 ∷ 0 ∷ 104 ∷ 0 ∷ [])
     ∷ (4 ∷ 0 ∷ 104 ∷ 0 ∷ [])
     ∷ (5 ∷ 0 ∷ 104 ∷ 0 ∷ [])
@@ -80,9 +80,9 @@ abbrev pub openedAt : ℕ → ℕ → ℕ → ℕ → ℕ
 openedAt n t s clock = openingOffset (record { n = n; longest = t; spread = s }) clock
 
 pub record Claims : Type 0 where
-  -- how long the records of kinds 100 to 107 are
-  pub lengths : map recordLength (100 ∷ 101 ∷ 102 ∷ 103 ∷ 104 ∷ 105 ∷ 106 ∷ 107 ∷ [])
-      ≡ 21 ∷ 8 ∷ 9 ∷ 9 ∷ 5 ∷ 5 ∷ 5 ∷ 5 ∷ []
+  -- how long the records of kinds 100 to 108 are
+  pub lengths : map recordLength (100 ∷ 101 ∷ 102 ∷ 103 ∷ 104 ∷ 105 ∷ 106 ∷ 107 ∷ 108 ∷ [])
+      ≡ 21 ∷ 8 ∷ 9 ∷ 9 ∷ 5 ∷ 5 ∷ 5 ∷ 5 ∷ 5 ∷ []
   -- the order of the faults, and their offsets, after the first record and in it
   pub event-order : faultsIn false eventEntries ≡ faultOrder
   pub event-offsets : offsetsIn false eventEntries ≡ offsetOrder
@@ -97,7 +97,7 @@ pub record Claims : Type 0 where
       → recordLength (toldKindAt s at) < toldLengthAt s at → recordFault first s at ≡ refusedLength
   -- a fault's offset is counted from its record's start, wherever the record stands
   pub from-start : map (λ (s : List ℕ). recordAt (settingsBytes ++ s) 21)
-      ((5 ∷ 0 ∷ 104 ∷ 0 ∷ []) ∷ (5 ∷ 0 ∷ 108 ∷ 0 ∷ 0 ∷ []) ∷ (4 ∷ 0 ∷ 104 ∷ 0 ∷ 0 ∷ []) ∷ [])
+      ((5 ∷ 0 ∷ 104 ∷ 0 ∷ []) ∷ (5 ∷ 0 ∷ 109 ∷ 0 ∷ 0 ∷ []) ∷ (4 ∷ 0 ∷ 104 ∷ 0 ∷ 0 ∷ []) ∷ [])
       ≡ Record.Fault refusedCut 4 ∷ Record.Fault refusedKind 2 ∷ Record.Fault refusedShort 0 ∷ []
   -- a field there gives the fault's number, and none at a lower offset does
   pub offset-given : (first : Bool) (s : List ℕ) (at : ℕ) → (recordFault first s at ≡ done → ⊥)
@@ -149,6 +149,7 @@ pub record Claims : Type 0 where
       ∷ (5 ∷ 0 ∷ 105 ∷ 0 ∷ 7 ∷ [])
       ∷ (5 ∷ 0 ∷ 106 ∷ 0 ∷ 7 ∷ [])
       ∷ (5 ∷ 0 ∷ 107 ∷ 0 ∷ 2 ∷ [])
+      ∷ (5 ∷ 0 ∷ 108 ∷ 0 ∷ 2 ∷ [])
       ∷ [])
       ≡ Record.Event (AdvanceAll (104 + 2 ^ 24)) 8
       ∷ Record.Event (AdvanceOne 2 (5 + 2 ^ 24)) 9
@@ -157,6 +158,7 @@ pub record Claims : Type 0 where
       ∷ Record.Event (Lose 7) 5
       ∷ Record.Event (Repeat 7) 5
       ∷ Record.Event (Restart 2) 5
+      ∷ Record.Event (Release 2) 5
       ∷ []
   -- a record is read alike in a longer file, and in a shorter one that has the whole of it
   pub read-longer : (s t : List ℕ) (at : ℕ) (e : Event) (next : ℕ)

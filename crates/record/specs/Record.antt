@@ -16,7 +16,7 @@ use Rattle.state.specs.StateLimits.{OpeningField, hostCount, longestLease, cloc
 use Rattle.state.specs.StateLimits.{openingClock}
 use Rattle.cell.specs.declared.Event.{Event}
 use Rattle.cell.specs.declared.Event.the-variants.{AdvanceAll, AdvanceOne, Start, Deliver}
-use Rattle.cell.specs.declared.Event.the-variants.{Lose, Repeat, Restart}
+use Rattle.cell.specs.declared.Event.the-variants.{Lose, Repeat, Restart, Release}
 use Rattle.cell.specs.Events.{openingRefusals}
 use Rattle.record.specs.declared.Head.{Head}
 use Rattle.record.specs.declared.Record.{Record}
@@ -48,6 +48,9 @@ repeatKind = 106
 abbrev pub restartKind : ℕ
 restartKind = 107
 
+abbrev pub releaseKind : ℕ
+releaseKind = 108
+
 -- the kind of an event's record
 unfoldable pub kindOf : Event → ℕ
 kindOf (AdvanceAll d) = advanceAllKind
@@ -57,10 +60,11 @@ kindOf (Deliver i) = deliverKind
 kindOf (Lose i) = loseKind
 kindOf (Repeat i) = repeatKind
 kindOf (Restart h) = restartKind
+kindOf (Release h) = releaseKind
 
 -- settings stand first, and only there; events after them
 unfoldable pub isAllowed : Bool → ℕ → Bool
-isAllowed first k = cond first (eqb k settingsKind) (leb advanceAllKind k && leb k restartKind)
+isAllowed first k = cond first (eqb k settingsKind) (leb advanceAllKind k && leb k releaseKind)
 
 -- how many bytes each field takes after the first two: n, T, S and clock; ticks; a host and ticks;
 -- a host or a slot
@@ -133,7 +137,8 @@ eventWith k vs =
     (cond (eqb k startKind) (Start one two)
     (cond (eqb k deliverKind) (Deliver one)
     (cond (eqb k loseKind) (Lose one)
-    (cond (eqb k repeatKind) (Repeat one) (Restart one))))))
+    (cond (eqb k repeatKind) (Repeat one)
+    (cond (eqb k restartKind) (Restart one) (Release one)))))))
 
 abbrev pub recordWith : List ℕ → ℕ → Head → Record
 recordWith s at (Head.Fault f o) = Record.Fault f o

@@ -53,6 +53,8 @@ const REPEAT: u16 = 106;
 
 const RESTART: u16 = 107;
 
+const RELEASE: u16 = 108;
+
 // After length and kind the settings have n, T, S and the opening clock.
 const N_AT: usize = layout::FORE_LENGTH;
 
@@ -87,6 +89,7 @@ pub fn kind_of(e: Event) -> u16
         Event::Lose(_) => LOSE,
         Event::Repeat(_) => REPEAT,
         Event::Restart(_) => RESTART,
+        Event::Release(_) => RELEASE,
     }
 }
 
@@ -97,7 +100,7 @@ fn is_allowed(first: bool, kind: u16) -> bool
     if first {
         return kind == SETTINGS;
     }
-    (ADVANCE_ALL <= kind) & (kind <= RESTART)
+    (ADVANCE_ALL <= kind) & (kind <= RELEASE)
 }
 
 // The length of a kind's records.
@@ -184,7 +187,8 @@ fn event_at(run: &[u8], at: usize, kind: u16) -> Event
         DELIVER => Event::Deliver(wire::byte(run, at + FIELDS_AT)),
         LOSE => Event::Lose(wire::byte(run, at + FIELDS_AT)),
         REPEAT => Event::Repeat(wire::byte(run, at + FIELDS_AT)),
-        _ => Event::Restart(wire::byte(run, at + FIELDS_AT)),
+        RESTART => Event::Restart(wire::byte(run, at + FIELDS_AT)),
+        _ => Event::Release(wire::byte(run, at + FIELDS_AT)),
     }
 }
 

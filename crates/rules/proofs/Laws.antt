@@ -1,17 +1,21 @@
 -- Laws of the leaf rules. Agreement and the limits stand on them, and a build whose rule is another
 -- does not have them. Assumes nothing.
 use mathlib.Core.Path.{_≡_, refl, sym, ap}
+use mathlib.Core.Logic.{_≢_}
 use mathlib.Core.Bool.{Bool, true, false, cond, not}
 use Prim.Native.Nat.{ℕ, _+_, _≤_, _<_}
 use native.Mathlib.Omega.{arith}
 use lib.Dec.{leb, eqb}
-use borrow.Author.Tests.{ltb-true, ltb-false, leb-true, leb-false, eqb-true, not-true, le-leb}
-use Rattle.base.proofs.Tests.{by-test, true-false}
+use borrow.Author.Tests.{ltb-true, ltb-false, leb-true, leb-false, eqb-true, eqb-false, not-true}
+use borrow.Author.Tests.{le-leb}
+use Rattle.base.proofs.Tests.{by-test, true-false, both}
 use Rattle.quorum.specs.Sets.{withHost, isMajority}
 use Rattle.quorum.proofs.Majorities.{with-same}
 use Rattle.message.specs.declared.Ballot.{Ballot}
 use Rattle.message.specs.declared.KeepersEnd.{KeepersEnd}
 use Rattle.message.specs.declared.Lease.{Lease}
+use Rattle.message.specs.declared.Head.{Head}
+use Rattle.message.specs.declared.LearnedLease.{LearnedLease}
 use Rattle.message.proofs.Laws.{above-itself, above-one-way}
 use Rattle.message.specs.Message.{isAbove, toHolders}
 use Rattle.rules.specs.declared.Promised.{Promised}
@@ -20,11 +24,13 @@ use Rattle.rules.specs.declared.LastBallot.{LastBallot}
 use Rattle.rules.specs.declared.Holder.{Holder}
 use Rattle.rules.specs.declared.Named.{Named}
 use Rattle.rules.specs.declared.Value.{Value}
+use Rattle.rules.specs.declared.Vote.{Vote}
 use Rattle.rules.specs.Rules.{isWaiting, waitEnd, leaseOver, acceptedAt, holderOver, namedAt}
 use Rattle.rules.specs.Rules.{ballotAt, isFresh, mayPromise, countsReply, hasEnded}
 use Rattle.rules.specs.Rules.{replacesKept, higherOf, actsOn, value, ownIsLater}
 use Rattle.rules.specs.Rules.{valueToPropose, isForbidden, mayAccept, afterAccept}
-use Rattle.rules.specs.Rules.{namingBound, isNamable, namedBy}
+use Rattle.rules.specs.Rules.{namingBound, isNamable, mayLearn, namedBy, namesItself}
+use Rattle.rules.specs.Rules.{takesRelease, isFreed, freedLease, freedHolder, afterRelease}
 
 -- ---- waiting, time and restart
 
@@ -44,11 +50,21 @@ pub wait-is : (clock longest spread : ℕ) → waitEnd clock longest spread ≡ 
 unfolding waitEnd
 wait-is clock longest spread = refl
 
+-- what is left of an accepted lease: nothing where it goes, and all of it where it stays
+pub data LeaseLeft (Goes Stays : Lease → Type 0) : Accepted → Accepted → Type 0 where
+  empty : LeaseLeft Goes Stays Accepted.Nothing Accepted.Nothing
+  over : (l : Lease) → Goes l → LeaseLeft Goes Stays (Accepted.One l) Accepted.Nothing
+  live : (l : Lease) → Stays l → LeaseLeft Goes Stays (Accepted.One l) (Accepted.One l)
+
+-- and of a named holder
+pub data HolderLeft (Goes Stays : Holder → Type 0) : Named → Named → Type 0 where
+  nobody : HolderLeft Goes Stays Named.Nobody Named.Nobody
+  dropped : (h : Holder) → Goes h → HolderLeft Goes Stays (Named.One h) Named.Nobody
+  stays : (h : Holder) → Stays h → HolderLeft Goes Stays (Named.One h) (Named.One h)
+
 -- time drops an accepted lease whose end has come, and no other
-pub data LeaseAged (clock : ℕ) : Accepted → Accepted → Type 0 where
-  empty : LeaseAged clock Accepted.Nothing Accepted.Nothing
-  over : (l : Lease) → l .end .0 ≤ clock → LeaseAged clock (Accepted.One l) Accepted.Nothing
-  live : (l : Lease) → clock < l .end .0 → LeaseAged clock (Accepted.One l) (Accepted.One l)
+abbrev pub LeaseAged : ℕ → Accepted → Accepted → Type 0
+LeaseAged clock = LeaseLeft (λ l. l .end .0 ≤ clock) (λ l. clock < l .end .0)
 
 pub lease-aged : (clock : ℕ) (a : Accepted) → LeaseAged clock a (acceptedAt clock a)
 unfolding acceptedAt
@@ -58,10 +74,8 @@ lease-aged clock (Accepted.One l) =
     (λ t. over l (leb-true (l .end .0) clock t)) (λ t. live l (leb-false (l .end .0) clock t))
 
 -- and so with a named holder
-pub data HolderAged (clock : ℕ) : Named → Named → Type 0 where
-  nobody : HolderAged clock Named.Nobody Named.Nobody
-  dropped : (h : Holder) → h .end .0 ≤ clock → HolderAged clock (Named.One h) Named.Nobody
-  stays : (h : Holder) → clock < h .end .0 → HolderAged clock (Named.One h) (Named.One h)
+abbrev pub HolderAged : ℕ → Named → Named → Type 0
+HolderAged clock = HolderLeft (λ h. h .end .0 ≤ clock) (λ h. clock < h .end .0)
 
 pub holder-aged : (clock : ℕ) (m : Named) → HolderAged clock m (namedAt clock m)
 unfolding namedAt
@@ -229,3 +243,83 @@ naming h Named.Nobody = first
 naming h (Named.One k) =
     by-test (Naming h (Named.One k)) (isAbove (h .ballot) (k .ballot)) _ _ (λ t. replaced k t)
     (λ t. unmoved k t)
+
+-- a learn message that is taken names another host, and its end is to come
+pub record Learnt (number clock : ℕ) (m : LearnedLease) : Type 0 where
+  pub another : m .owner ≢ number
+  pub live : clock < m .end .0
+
+pub learnt : (number clock : ℕ) (m : LearnedLease) → mayLearn number clock m ≡ true
+    → Learnt number clock m
+unfolding mayLearn
+learnt number clock m e = go (eqb (m .owner) number) refl e
+  where
+    go : (t : Bool) → eqb (m .owner) number ≡ t → cond t false (not (leb (m .end .0) clock)) ≡ true
+        → Learnt number clock m
+    go true p q = true-false (sym q)
+    go false p q =
+        record {
+          another = eqb-false (m .owner) number p;
+          live = leb-false (m .end .0) clock (not-true (leb (m .end .0) clock) q);
+        }
+
+-- ---- release and release request
+
+-- a host that names itself names a holder, of which it is the owner
+pub names-itself : (number : ℕ) (m : Named) → namesItself number m ≡ true
+    → (h : Holder) × (m ≡ Named.One h) × (h .owner ≡ number)
+unfolding namesItself
+names-itself number Named.Nobody e = true-false (sym e)
+names-itself number (Named.One h) e = (h, refl, eqb-true (h .owner) number e)
+
+-- a release at the promise is taken
+pub release-at-promise : (b : Ballot) → takesRelease (Promised.To b) b ≡ true
+unfolding takesRelease isForbidden
+release-at-promise b = rw (above-itself b)
+
+-- a release that is taken is not below the promise
+pub release-not-below : (p b : Ballot) → takesRelease (Promised.To p) b ≡ true
+    → isAbove p b ≡ false
+unfolding takesRelease
+release-not-below p b e = allowed-not-below p b (not-true (isForbidden (Promised.To p) b) e)
+
+-- what a release frees is its sender's, with a lower ballot
+pub record Freed (m : Head) (o : ℕ) (b : Ballot) : Type 0 where
+  pub senders : o ≡ m .sender
+  pub lower : isAbove (m .ballot) b ≡ true
+
+freed : (m : Head) (o : ℕ) (b : Ballot) → isFreed m o b ≡ true → Freed m o b
+freed m o b e =
+    let p = both (eqb o (m .sender)) (isAbove (m .ballot) b) e in
+    record { senders = eqb-true o (m .sender) (p .0); lower = p .1 }
+
+-- a release drops an accepted lease that it frees, and no other
+abbrev pub LeaseFreed : Head → Accepted → Accepted → Type 0
+LeaseFreed m =
+    LeaseLeft (λ l. Freed m (l .owner) (l .ballot)) (λ l. isFreed m (l .owner) (l .ballot) ≡ false)
+
+pub freed-lease : (m : Head) (a : Accepted) → LeaseFreed m a (freedLease m a)
+unfolding freedLease
+freed-lease m Accepted.Nothing = empty
+freed-lease m (Accepted.One l) =
+    by-test (LeaseFreed m (Accepted.One l)) (isFreed m (l .owner) (l .ballot)) _ _
+    (λ t. over l (freed m (l .owner) (l .ballot) t)) (λ t. live l t)
+
+-- and so with a named holder
+abbrev pub HolderFreed : Head → Named → Named → Type 0
+HolderFreed m =
+    HolderLeft (λ h. Freed m (h .owner) (h .ballot)) (λ h. isFreed m (h .owner) (h .ballot) ≡ false)
+
+pub freed-holder : (m : Head) (n : Named) → HolderFreed m n (freedHolder m n)
+unfolding freedHolder
+freed-holder m Named.Nobody = nobody
+freed-holder m (Named.One h) =
+    by-test (HolderFreed m (Named.One h)) (isFreed m (h .owner) (h .ballot)) _ _
+    (λ t. dropped h (freed m (h .owner) (h .ballot) t)) (λ t. stays h t)
+
+-- whoever takes a release has promised its ballot
+pub release-promises : (v : Vote) (m : Head)
+    → (afterRelease v m .promised ≡ Promised.To (m .ballot))
+    × (afterRelease v m .accepted ≡ freedLease m (v .accepted))
+unfolding afterRelease
+release-promises v m = (refl, refl)

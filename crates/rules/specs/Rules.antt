@@ -1,12 +1,14 @@
--- The leaf rules of a host, in document 01's order, each with the sentence it stands for. Assumes
--- nothing.
+-- The leaf rules of a host, in document 01's order, with document 02's release, each with the
+-- sentence it stands for. Assumes nothing.
 use Prim.Native.Nat.{ℕ, _+_}
-use mathlib.Core.Bool.{Bool, true, false, cond, not}
+use mathlib.Core.Bool.{Bool, true, false, cond, not, _&&_}
 use lib.Dec.{ltb, leb, eqb}
 use Rattle.quorum.specs.Sets.{isIn, isMajority}
 use Rattle.message.specs.declared.Ballot.{Ballot}
 use Rattle.message.specs.declared.KeepersEnd.{KeepersEnd}
 use Rattle.message.specs.declared.Lease.{Lease}
+use Rattle.message.specs.declared.Head.{Head}
+use Rattle.message.specs.declared.LearnedLease.{LearnedLease}
 use Rattle.message.specs.Message.{isAbove, toKeepers}
 use Rattle.rules.specs.declared.Promised.{Promised}
 use Rattle.rules.specs.declared.Accepted.{Accepted}
@@ -131,7 +133,43 @@ namingBound clock spread = clock + spread
 abbrev pub isNamable : ℕ → ℕ → KeepersEnd → Bool
 isNamable clock spread end = ltb (namingBound clock spread) (end .0)
 
+-- neither 'a learn message that names its own receiver' (02) nor one of which 'its end is at or
+-- below the clock'
+unfoldable pub mayLearn : ℕ → ℕ → LearnedLease → Bool
+mayLearn number clock m = cond (eqb (m .owner) number) false (not (leb (m .end .0) clock))
+
 -- 'naming replaces a named holder only if the new ballot is higher'
 unfoldable pub namedBy : Named → Holder → Named
 namedBy Named.Nobody h = Named.One h
 namedBy (Named.One k) h = cond (isAbove (h .ballot) (k .ballot)) (Named.One h) (Named.One k)
+
+-- ---- release and release request (02; 001, section 3.3)
+
+-- refusal 18 where it does not hold: the host names itself
+unfoldable pub namesItself : ℕ → Named → Bool
+namesItself number Named.Nobody = false
+namesItself number (Named.One h) = eqb (h .owner) number
+
+-- not 'below its promise'
+unfoldable pub takesRelease : Promised → Ballot → Bool
+takesRelease p b = not (isForbidden p b)
+
+-- 'owned by the sender', and 'its ballot is lower'
+abbrev pub isFreed : Head → ℕ → Ballot → Bool
+isFreed m o b = eqb o (m .sender) && isAbove (m .ballot) b
+
+-- 'drops an accepted lease .. owned by the sender if its ballot is lower'
+unfoldable pub freedLease : Head → Accepted → Accepted
+freedLease m Accepted.Nothing = Accepted.Nothing
+freedLease m (Accepted.One l) =
+    cond (isFreed m (l .owner) (l .ballot)) Accepted.Nothing (Accepted.One l)
+
+-- 'or named holder'
+unfoldable pub freedHolder : Head → Named → Named
+freedHolder m Named.Nobody = Named.Nobody
+freedHolder m (Named.One h) = cond (isFreed m (h .owner) (h .ballot)) Named.Nobody (Named.One h)
+
+-- 'it promises that ballot, and drops an accepted lease ..'
+unfoldable pub afterRelease : Vote → Head → Vote
+afterRelease v m =
+    record { promised = Promised.To (m .ballot); accepted = freedLease m (v .accepted) }

@@ -1,16 +1,20 @@
 // The leaf rules of a host: what is promised, accepted, kept, proposed, named and dropped, and when
-// a round acts. Each is one sentence of document 01, as a free function on small values; the host's
-// methods only put them together.
+// a round acts. Each is one sentence of document 01 or 02, as a free function on small values; the
+// host's methods only put them together.
 ghost use mathlib.Core.Path.{_≡_};
 ghost use Prim.Native.Nat.{_<_, _≤_, _^_};
 ghost use Rattle.message.specs.Message.{lastTick};
 ghost use Rattle.rules.specs.Rules.{mayPromise, isForbidden, mayAccept, acceptedAt, namedAt};
 ghost use Rattle.rules.specs.Rules.{hasEnded, waitEnd, ballotAt, isFresh, countsReply};
 ghost use Rattle.rules.specs.Rules.{higherOf, ownEnd, valueToPropose, actsOn, isNamable};
-ghost use Rattle.rules.specs.Rules.{namedBy, afterAccept, isWaiting};
+ghost use Rattle.rules.specs.Rules.{namedBy, afterAccept, isWaiting, mayLearn, namesItself};
+ghost use Rattle.rules.specs.Rules.{takesRelease, isFreed, freedLease, freedHolder};
+ghost use Rattle.rules.specs.Rules.{afterRelease};
 use message::Ballot;
+use message::Head;
 use message::HoldersEnd;
 use message::KeepersEnd;
+use message::LearnedLease;
 use message::Lease;
 
 // The promised ballot, or none.
@@ -266,5 +270,84 @@ pub fn named_by(m: Named, holder: Holder) -> Named
             }
             m
         }
+    }
+}
+
+// Whether a learn message is taken: it names another host, and its end is to come.
+pub fn may_learn(number: u8, clock: u64, m: LearnedLease) -> bool
+    ensures { λ r. ⌜ r ≡ mayLearn number clock m ⌝ }
+{
+    if m.owner == number {
+        return false;
+    }
+    !(m.end.0 <= clock)
+}
+
+// Whether the named holder is the host itself.
+pub fn names_itself(number: u8, m: Named) -> bool
+    ensures { λ r. ⌜ r ≡ namesItself number m ⌝ }
+{
+    match m {
+        Named::One(h) => h.owner == number,
+        Named::Nobody => false,
+    }
+}
+
+// Whether a release is taken: its ballot is not below the promise.
+pub fn takes_release(p: Promised, ballot: Ballot) -> bool
+    ensures { λ r. ⌜ r ≡ takesRelease p ballot ⌝ }
+{
+    !is_forbidden(p, ballot)
+}
+
+// Whether a release frees what has this owner and this ballot: the sender's, if it is lower.
+fn is_freed(m: Head, owner: u8, ballot: Ballot) -> bool
+    ensures { λ r. ⌜ r ≡ isFreed m owner ballot ⌝ }
+{
+    (owner == m.sender) & m.ballot.is_above(ballot)
+}
+
+// The accepted lease, unless a release frees it.
+fn freed_lease(m: Head, a: Accepted) -> Accepted
+    ensures { λ r. ⌜ r ≡ freedLease m a ⌝ }
+{
+    match a {
+        Accepted::One(l) => {
+            let ballot = l.ballot;
+            if is_freed(m, l.owner, ballot) {
+                return Accepted::Nothing;
+            }
+            a
+        }
+        Accepted::Nothing => a,
+    }
+}
+
+// The named holder, unless a release frees it.
+pub fn freed_holder(m: Head, named: Named) -> Named
+    ensures { λ r. ⌜ r ≡ freedHolder m named ⌝ }
+{
+    match named {
+        Named::One(h) => {
+            let ballot = h.ballot;
+            if is_freed(m, h.owner, ballot) {
+                return Named::Nobody;
+            }
+            named
+        }
+        Named::Nobody => named,
+    }
+}
+
+// What an acceptor keeps after a release that it takes.
+pub fn after_release(v: Vote, m: Head) -> Vote
+    ensures { λ r. ⌜ r ≡ afterRelease v m ⌝ }
+{
+    let ballot = m.ballot;
+    let promised = Promised::To(ballot);
+    let accepted = v.accepted;
+    Vote {
+        promised,
+        accepted: freed_lease(m, accepted),
     }
 }

@@ -57,8 +57,38 @@ fn main() {
         b"restart_after_promise.run",
         b"a restart between a promise and its acceptance",
     );
+    // Host 0 lets go while it proposes to renew. The late votes, a majority, find no round, and the
+    // late proposal is below the promise of the release: nothing keeps host 1 from the lease.
+    show(
+        b"release_in_a_renewal.run",
+        b"a release while a renewal is under way",
+    );
+    // Host 2 asks before the release comes to host 1, and proposes host 0's lease once more. Host 0
+    // is told of it and does not name itself; the others name it up to 155.
+    show(
+        b"release_overtaken.run",
+        b"a release that is overtaken by another host's round",
+    );
+    // Host 2 waits when host 0 lets go. When it is back, it promises an older prepare request, and
+    // then an old copy of the release.
+    show(b"release_to_waiting.run", b"a release to a waiting host");
+    // Host 2 promises the release, and then names host 0 by a late learn. Host 1 takes the next
+    // lease; the release, delivered again, drops that name.
+    show(
+        b"release_twice.run",
+        b"a release delivered twice, and a learn of its lease in between",
+    );
+    // Host 0 has let go and holds the next lease when its release comes to host 2, which names it.
+    show(
+        b"release_after_next.run",
+        b"a release that comes after its sender's next lease",
+    );
     // Events of an opened cell: each number that one can be refused by.
     show(b"answers.run", b"the answers 5 and 9 to 15");
+    show(
+        b"release_answers.run",
+        b"the answers of a release: 0, 5, 9, 10, 13 and 18",
+    );
     show(
         b"last_tick.run",
         b"15 at the last tick that a clock may have",

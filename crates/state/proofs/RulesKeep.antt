@@ -7,13 +7,14 @@ use borrow.Author.Tests.{ltb-true, lt-ltb}
 use Rattle.quorum.specs.Sets.{isBelow, withHost}
 use Rattle.quorum.proofs.Majorities.{with-below}
 use Rattle.message.specs.declared.KeepersEnd.{KeepersEnd}
+use Rattle.message.specs.declared.Lease.{Lease}
 use Rattle.message.specs.Message.{lastTick, lastEnd}
 use Rattle.rules.specs.declared.Accepted.{Accepted}
 use Rattle.rules.specs.declared.Named.{Named}
 use Rattle.rules.specs.declared.Holder.{Holder}
 use Rattle.rules.specs.declared.Value.{Value}
 use Rattle.rules.specs.Rules.{ownEnd}
-use Rattle.rules.proofs.Laws.{LeaseAged, empty, over, live, lease-aged, HolderAged, nobody, dropped}
+use Rattle.rules.proofs.Laws.{LeaseLeft, empty, over, live, lease-aged, HolderLeft, nobody, dropped}
 use Rattle.rules.proofs.Laws.{stays, holder-aged, Higher, earlier, later, ToPropose, free, ended}
 use Rattle.rules.proofs.Laws.{renewed, kept, Naming, first, replaced, unmoved}
 use Rattle.state.specs.declared.Settings.{Settings}
@@ -22,17 +23,17 @@ use Rattle.state.specs.StateLimits.{lastLongest, settingsOk, acceptedOk,
 use Rattle.state.specs.Ageing.{agedAt}
 use Rattle.state.proofs.StateLimits.{settings-in, accepted-in, StateIn}
 
--- ---- time
+-- ---- time and releases
 
-kept-lease : (n : ℕ) {clock : ℕ} {a b : Accepted} → LeaseAged clock a b → acceptedOk n a ≡ true
-    → acceptedOk n b ≡ true
+pub kept-lease : (n : ℕ) {Goes Stays : Lease → Type 0} {a b : Accepted} → LeaseLeft Goes Stays a b
+    → acceptedOk n a ≡ true → acceptedOk n b ≡ true
 unfolding acceptedOk
 kept-lease n empty e = e
 kept-lease n (over l _) e = refl
 kept-lease n (live l _) e = e
 
-kept-holder : (n : ℕ) {clock : ℕ} {m k : Named} → HolderAged clock m k → namedOk n m ≡ true
-    → namedOk n k ≡ true
+pub kept-holder : (n : ℕ) {Goes Stays : Holder → Type 0} {m k : Named} → HolderLeft Goes Stays m k
+    → namedOk n m ≡ true → namedOk n k ≡ true
 unfolding namedOk
 kept-holder n nobody e = e
 kept-holder n (dropped h _) e = refl

@@ -2,3 +2,4 @@
 pub mod StateLimits
 pub mod Blank
 pub mod Ageing
+pub mod Releasing

@@ -1,13 +1,15 @@
 // What a host keeps of one sheet, the settings of a cell, and whether their numbers are within
-// document 01's limits (number 1); and the blank state, in which nothing is kept.
+// document 01's limits (number 1); and what a restart, a clock and a release leave of a state.
 ghost use mathlib.Core.Path.{_≡_};
 ghost use Rattle.state.specs.Ageing.{agedAt};
+ghost use Rattle.state.specs.Releasing.{releasedAt, freedBy};
 ghost use Rattle.state.specs.Blank.{blankState, noPromise, noLease, noTick, noRound};
 ghost use Rattle.state.specs.Blank.{noHolder, isBlankState};
 ghost use Rattle.state.specs.StateLimits.{sizesOf, settingsOk, ballotOk, leaseOk, acceptedOk};
 ghost use Rattle.state.specs.StateLimits.{promisedOk, lastOk, namedOk, askingOk, proposingOk};
 ghost use Rattle.state.specs.StateLimits.{roundOk, stateOk, durationOk};
 use message::Ballot;
+use message::Head;
 use message::KeepersEnd;
 use message::LAST_END;
 use message::LAST_TICK;
@@ -16,6 +18,7 @@ use rules::Accepted;
 use rules::LastBallot;
 use rules::Named;
 use rules::Promised;
+use rules::Vote;
 
 // The longest lease that a cell may be set to, 2^31 ticks.
 pub const LAST_LONGEST: u32 = 2147483648;
@@ -82,6 +85,45 @@ impl State {
             last,
             round,
             named: rules::named_at(clock, named),
+        }
+    }
+
+    // Letting go takes a ballot of this tick, drops the round, and names nobody.
+    pub fn released_at(self, clock: u64) -> State
+        ensures { λ r. ⌜ r ≡ releasedAt clock self ⌝ }
+    {
+        let promised = self.promised;
+        let accepted = self.accepted;
+        let last = LastBallot::At(clock);
+        let round = Round::Idle;
+        let named = Named::Nobody;
+        State {
+            promised,
+            accepted,
+            last,
+            round,
+            named,
+        }
+    }
+
+    // A release request that is taken is promised, and drops what its sender owns.
+    pub fn freed_by(self, m: Head) -> State
+        ensures { λ r. ⌜ r ≡ freedBy m self ⌝ }
+    {
+        let promised = self.promised;
+        let accepted = self.accepted;
+        let last = self.last;
+        let round = self.round;
+        let named = self.named;
+        let vote = rules::after_release(Vote { promised, accepted }, m);
+        let promise = vote.promised;
+        let kept = vote.accepted;
+        State {
+            promised: promise,
+            accepted: kept,
+            last,
+            round,
+            named: rules::freed_holder(m, named),
         }
     }
 }

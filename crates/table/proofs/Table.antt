@@ -14,7 +14,9 @@ use Rattle.frame.specs.Reading.{readAnswer, readOffset, readOf}
 use Rattle.frame.specs.Writing.{frameOf, writeAnswer, framesIn, framesOf, answerTo}
 use Rattle.frame_c.specs.Interface.{handedNumbers, handedAnswer, handedAnswerTo}
 use Rattle.rules.specs.Rules.{waitEnd, acceptedAt, namedAt, isFresh, mayPromise, hasEnded, higherOf}
-use Rattle.rules.specs.Rules.{actsOn, valueToPropose, isForbidden, mayAccept, afterAccept, namedBy}
+use Rattle.rules.specs.Rules.{actsOn, valueToPropose, isForbidden, mayAccept, afterAccept, mayLearn}
+use Rattle.rules.specs.Rules.{namedBy, namesItself, takesRelease, freedLease, freedHolder}
+use Rattle.rules.specs.Rules.{afterRelease}
 use Rattle.state.specs.StateLimits.{lastLongest, settingsOk, durationOk, ballotOk, leaseOk}
 use Rattle.state.specs.StateLimits.{acceptedOk, promisedOk, lastOk, namedOk, askingOk, proposingOk}
 use Rattle.state.specs.StateLimits.{roundOk, stateOk}
@@ -22,11 +24,12 @@ use Rattle.state.specs.Ageing.{agedAt}
 use Rattle.state.specs.Blank.{noPromise, noLease, noTick, noRound, noHolder, isBlankState}
 use Rattle.host.specs.Steps.{lastWait, hostOk, advanceRefusal, advancedHost, advanceOf}
 use Rattle.host.specs.Steps.{restartRefusal, restartedHost, restartOf, startRefusal, onStart}
+use Rattle.host.specs.Steps.{releaseRefusal, onRelease, releaseOf}
 use Rattle.host.specs.Steps.{startOf, responseWith, onPrepareRequest, askingAfter, onMajority}
 use Rattle.host.specs.Steps.{onCountedReply, onReply, onPrepareResponse, onProposeRequest}
 use Rattle.host.specs.Steps.{proposingAfter, onNaming, onChosen, onCountedVote, onVote}
-use Rattle.host.specs.Steps.{onProposeResponse, onLearn, onMessage, onDelivery, receiveRefusal}
-use Rattle.host.specs.Steps.{receiveOf}
+use Rattle.host.specs.Steps.{onProposeResponse, onLearn, onReleaseRequest, onMessage, onDelivery}
+use Rattle.host.specs.Steps.{receiveRefusal, receiveOf}
 use Rattle.places.specs.Places.{placeOk, stateAtOk, placesOk, statesOk, clocksOk, newHost, eachHost}
 use Rattle.places.specs.Places.{advancesRefusal}
 use Rattle.slots.specs.Slots.{isEmpty, contentOk, slotsOk, empties, lowest, placed, placedEach}
@@ -34,8 +37,8 @@ use Rattle.cell.specs.CellLimits.{cellOk}
 use Rattle.cell.specs.Events.{messagesIn, sentTo, stepped, openingRefusal, openedWith, openingOf}
 use Rattle.cell.specs.Events.{advanceAllRefusal, advancedAll, advancedOne, advanceOneRefusal}
 use Rattle.cell.specs.Events.{startAtRefusal, deliverFull, deliverRefusal, delivered, loseRefusal}
-use Rattle.cell.specs.Events.{repeatRefusal, repeated, restartAtRefusal, refusalOf, afterOf}
-use Rattle.cell.specs.Events.{eventOf}
+use Rattle.cell.specs.Events.{repeatRefusal, repeated, restartAtRefusal, releaseAtRefusal}
+use Rattle.cell.specs.Events.{refusalOf, afterOf, eventOf}
 use Rattle.cell.specs.Runs.{run, answers}
 use Rattle.table.specs.Table.{Table}
 use Rattle.table.specs.NotEmpty.{NotEmpty}
@@ -46,19 +49,20 @@ unfolding frameOf writeAnswer framesIn framesOf answerTo handedNumbers handedAns
     ones onesIn firstOf le numberAt total numbersAt packed isMajority membersFrom lastTick lastEnd
     isAbove knownKind isResponse numbersOf messageOf addressedTo partyFits faultOf partyFitsTo
     faultTo moreOf kindLength offsetIn bytesOf valueIn numbersIn testsIn failsAt readAnswer
-    readOffset readOf waitEnd acceptedAt namedAt
-    isFresh mayPromise hasEnded higherOf actsOn valueToPropose isForbidden mayAccept afterAccept
-    namedBy lastLongest settingsOk durationOk ballotOk leaseOk acceptedOk promisedOk lastOk namedOk
-    askingOk proposingOk roundOk stateOk agedAt lastWait hostOk advanceRefusal advancedHost
-    advanceOf restartRefusal restartedHost restartOf startRefusal onStart startOf responseWith
-    onPrepareRequest askingAfter onMajority onCountedReply onReply onPrepareResponse
-    onProposeRequest proposingAfter onNaming onChosen onCountedVote onVote onProposeResponse onLearn
-    onMessage onDelivery receiveRefusal receiveOf isEmpty contentOk slotsOk empties lowest placed
-    placedEach noPromise noLease noTick noRound noHolder isBlankState placeOk stateAtOk placesOk
-    statesOk clocksOk cellOk messagesIn sentTo stepped openingRefusal newHost openedWith openingOf
-    eachHost advancesRefusal advanceAllRefusal advancedAll advancedOne advanceOneRefusal
-    startAtRefusal deliverFull deliverRefusal delivered loseRefusal repeatRefusal repeated
-    restartAtRefusal refusalOf afterOf eventOf run answers every allOf
+    readOffset readOf waitEnd acceptedAt namedAt isFresh mayPromise hasEnded higherOf actsOn
+    valueToPropose isForbidden mayAccept afterAccept mayLearn namedBy namesItself takesRelease
+    freedLease freedHolder afterRelease lastLongest settingsOk durationOk ballotOk leaseOk
+    acceptedOk promisedOk lastOk namedOk askingOk proposingOk roundOk stateOk agedAt lastWait hostOk
+    advanceRefusal advancedHost advanceOf restartRefusal restartedHost restartOf startRefusal
+    onStart startOf releaseRefusal onRelease releaseOf responseWith onPrepareRequest askingAfter
+    onMajority onCountedReply onReply onPrepareResponse onProposeRequest proposingAfter onNaming
+    onChosen onCountedVote onVote onProposeResponse onLearn onReleaseRequest onMessage onDelivery
+    receiveRefusal receiveOf isEmpty contentOk slotsOk empties lowest placed placedEach noPromise
+    noLease noTick noRound noHolder isBlankState placeOk stateAtOk placesOk statesOk clocksOk cellOk
+    messagesIn sentTo stepped openingRefusal newHost openedWith openingOf eachHost advancesRefusal
+    advanceAllRefusal advancedAll advancedOne advanceOneRefusal startAtRefusal deliverFull
+    deliverRefusal delivered loseRefusal repeatRefusal repeated restartAtRefusal releaseAtRefusal
+    refusalOf afterOf eventOf run answers every allOf
 computed = (
   record {
     P1 = refl;
@@ -81,6 +85,9 @@ computed = (
     passed = refl;
     waits = refl;
     returned = refl;
+    released = refl;
+    lags = refl;
+    spent = refl;
   },
   record {
     reading = refl;
@@ -98,9 +105,11 @@ computed = (
     lose = refl;
     repeat = refl;
     restart = refl;
+    release = refl;
     host-advance = refl;
     host-start = refl;
     host-restart = refl;
+    host-release = refl;
     host-message = refl;
   },
 )

@@ -1,6 +1,6 @@
 -- The order of refusals, by computed answers. In each list an entry is refused by what its number
 -- says, and by the number after it too; the next entry has the first of the two mended. So the
--- answers are document 01's order, and no two neighbours in it could be exchanged. (Two pairs can
+-- answers are the documents' order, and no two neighbours in it could be exchanged. (Two pairs can
 -- never apply together, and show only that both are there: a place at n or above never waits, and
 -- an empty slot sends nothing. 4 and 17 exclude each other, and stand in one place.) Assumes
 -- nothing.
@@ -17,17 +17,17 @@ use Rattle.frame.specs.Writing.{writeAnswer, answerTo}
 use Rattle.frame_c.specs.Interface.{handedNumbers, handedAnswer, handedAnswerTo}
 use Rattle.state.specs.declared.Settings.{Settings}
 use Rattle.host.specs.declared.Host.{Host}
-use Rattle.host.specs.Steps.{advanceOf, restartOf, startOf, receiveOf}
+use Rattle.host.specs.Steps.{advanceOf, restartOf, startOf, releaseOf, receiveOf}
 use Rattle.slots.specs.declared.Slot.{Slot}
 use Rattle.slots.specs.Slots.{slotWith, isEmpty}
 use Rattle.cell.specs.declared.Cell.{Cell}
 use Rattle.cell.specs.declared.Event.{Event}
 use Rattle.cell.specs.declared.Event.the-variants.{AdvanceAll, AdvanceOne, Start, Deliver}
-use Rattle.cell.specs.declared.Event.the-variants.{Lose, Repeat, Restart}
+use Rattle.cell.specs.declared.Event.the-variants.{Lose, Repeat, Restart, Release}
 use Rattle.cell.specs.CellLimits.{hostAt}
 use Rattle.cell.specs.Events.{openingOf, eventOf, withSlots}
 use Rattle.cell.specs.Runs.{run}
-use Rattle.table.specs.Table.{example, ballot}
+use Rattle.table.specs.Table.{example, ballot, naming}
 
 -- one tick more than a clock or a ballot may have
 abbrev pub pastTick : ℕ
@@ -84,8 +84,15 @@ oneReply = run example (AdvanceAll 105 ∷ Start 0 50 ∷ Deliver 0 ∷ Deliver 
 abbrev pub orRequest : Slot → Slot
 orRequest slot = cond (isEmpty (slot .content)) (slotWith (request 0 105 0)) slot
 
+abbrev pub filled : Cell → Cell
+filled c = withSlots c (map orRequest (c .slots))
+
 abbrev pub full : Cell
-full = withSlots oneReply (map orRequest (oneReply .slots))
+full = filled oneReply
+
+-- host 0 names itself, in the tick in which it started
+abbrev pub holding : Cell
+holding = run example naming
 
 abbrev pub answerOf : Cell → Event → ℕ
 answerOf c e = eventOf c e .answer
@@ -157,6 +164,12 @@ pub record RefusalOrders : Type 0 where
   pub repeat : answerOf broken (Repeat 96) ∷ map (answerOf full) (Repeat 96 ∷ Repeat 1 ∷ [])
       ≡ 1 ∷ 12 ∷ 13 ∷ []
   pub restart : answerOf broken (Restart 3) ∷ answerOf example (Restart 3) ∷ [] ≡ 1 ∷ 5 ∷ []
+  pub release : answerOf broken (Release 3)
+      ∷ map (answerOf at104) (Release 3 ∷ Release 0 ∷ [])
+      ++ (answerOf full (Release 0)
+      ∷ answerOf (filled holding) (Release 0)
+      ∷ answerOf (run (filled holding) (AdvanceAll 1 ∷ [])) (Release 0)
+      ∷ []) ≡ 1 ∷ 5 ∷ 9 ∷ 18 ∷ 10 ∷ 13 ∷ []
   -- a host's own steps
   pub host-advance : advanceOf settings (stranger waiting) 0 .answer
       ∷ advanceOf settings waiting 0 .answer ∷ []
@@ -167,6 +180,11 @@ pub record RefusalOrders : Type 0 where
       ∷ startOf settings started 50 .answer
       ∷ [] ≡ 1 ∷ 9 ∷ 11 ∷ 10 ∷ []
   pub host-restart : restartOf settings (stranger waiting) .answer ≡ 1
+  pub host-release : releaseOf settings (stranger waiting) .answer
+      ∷ releaseOf settings waiting .answer
+      ∷ releaseOf settings started .answer
+      ∷ releaseOf settings (hostAt holding 0) .answer
+      ∷ [] ≡ 1 ∷ 9 ∷ 18 ∷ 10 ∷ []
   -- as writing to its target, then 7 where the target is another host
   pub host-message : receiveOf settings (stranger waiting) (request 3 pastTick 1) .answer
       ∷ map (λ m. receiveOf settings waiting m .answer)

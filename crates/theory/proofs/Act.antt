@@ -5,9 +5,11 @@ use native.Mathlib.Nat.{le-refl}
 use mathlib.Core.Path.{_≡_, refl, sym, ap, _∙_}
 use mathlib.Core.Logic.{_⊎_, inl, inr, _≢_}
 use mathlib.Core.Option.{Option, none, some}
-use Rattle.theory.specs.Ballots.{proposer}
+use mathlib.Core.List.{List, List·Memᴰ}
+use Rattle.theory.specs.Ballots.{proposer, with-one}
 use Rattle.theory.specs.Model.{Setup, Message, prepareRequest, prepareResponse}
-use Rattle.theory.specs.Model.{proposeRequest, proposeResponse, learn, Host, World, Sent, put}
+use Rattle.theory.specs.Model.{proposeRequest, proposeResponse, learn, release, Host, World}
+use Rattle.theory.specs.Model.{Sent, put}
 use Rattle.theory.specs.Invariant.{Voted, Proposed, Live, MessageOk, HostOk, Invariant}
 use Rattle.theory.proofs.Ballots.{changed-all, with-old, with-cases}
 use Rattle.theory.proofs.Later.{Fresh, Remembers, Later, live-before, message-kept}
@@ -21,6 +23,7 @@ kind (some (prepareResponse x b A)) = 2
 kind (some (proposeRequest b o e)) = 4
 kind (some (proposeResponse x b)) = 5
 kind (some (learn b o f)) = 6
+kind (some (release b)) = 7
 
 -- what a message is not; `omega arith` proves each for a message that is written out
 pub record NoVote (m : Option Message) : Type 0 where
@@ -29,9 +32,22 @@ pub record NoVote (m : Option Message) : Type 0 where
 pub record NoProposal (m : Option Message) : Type 0 where
   pub proposal : kind m ≡ 4 → ⊥
 
+pub record NoRelease (m : Option Message) : Type 0 where
+  pub release : kind m ≡ 7 → ⊥
+
 pub record Plain (m : Option Message) : Type 0 where
   pub vote : kind m ≡ 5 → ⊥
   pub proposal : kind m ≡ 4 → ⊥
+  pub release : kind m ≡ 7 → ⊥
+
+-- where the message is no release, there was each release before
+pub released-before : (m : Option Message) → NoRelease m → {l : List Message} (r : ℕ)
+    → List·Memᴰ (release r) (with-one m l) → List·Memᴰ (release r) l
+released-before m nr {l} r q = go (with-cases m q)
+  where
+    go : List·Memᴰ (release r) l ⊎ (m ≡ some (release r)) → List·Memᴰ (release r) l
+    go (inl q) = q
+    go (inr q) = absurd (nr .release (ap kind q))
 
 module _ {𝒞 : Setup} where
   -- what a step of the host h, to v with the message m, owes to all others
@@ -41,6 +57,7 @@ module _ {𝒞 : Setup} where
     pub vote : (x b : ℕ) → m ≡ some (proposeResponse x b) → (x ≡ h) × Fresh s h b
     pub proposal : (b o e : ℕ) → m ≡ some (proposeRequest b o e) → (proposer b ≡ h)
         × ((o' e' : ℕ) → Proposed s b o' e' → ⊥)
+    pub release : (b : ℕ) → m ≡ some (release b) → proposer b ≡ h
 
   -- what a new proposal owes to the others
   pub record NewProposal (s s' : World 𝒞) (b o e : ℕ) : Type 0 where
@@ -112,10 +129,16 @@ module _ {𝒞 : Setup} where
         mine x n b o e i (inl q) = q
         mine x n b o e i (inr q) = absurd (n (sym i ∙ F .proposal b o e q .0))
 
+        firm : (x : ℕ) → x ≢ h → (r : ℕ) → proposer r ≡ x → Sent s (release r)
+            ⊎ (m ≡ some (release r)) → Sent s (release r)
+        firm x n r i (inl q) = q
+        firm x n r i (inr q) = absurd (n (sym i ∙ F .release r q))
+
         others : (x : ℕ) → x ≢ h → HostOk (put s h v m) x (s .host x)
         others x n =
             host-kept I later x (s .host x) refl (λ b q. quiet x n b (voted-cases x b q))
-            (record { proposed = λ b o e i q. mine x n b o e i (with-cases m q) }) (I .hosts x)
+            (record { proposed = λ b o e i q. mine x n b o e i (with-cases m q) })
+            (record { released = λ r i q. firm x n r i (with-cases m q) }) (I .hosts x)
 
         single : (b o e o' e' : ℕ) → Proposed s b o e ⊎ (m ≡ some (proposeRequest b o e)) →
             Proposed s b o' e' ⊎ (m ≡ some (proposeRequest b o' e')) → (o ≡ o') × (e ≡ e')

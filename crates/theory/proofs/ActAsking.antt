@@ -1,18 +1,18 @@
 -- The acts of the asking round keep the invariant: giving up, starting, hearing a reply. Assumes
 -- nothing.
-use Prim.Native.Nat.{ℕ, _+_, _≤_}
+use Prim.Native.Nat.{ℕ, _+_, _≤_, _<_}
 use native.Mathlib.Omega.{arith}
 use native.Mathlib.Nat.{le-refl}
 use mathlib.Core.Path.{_≡_, ap, subst}
 use mathlib.Core.Logic.{_⊎_, inl, inr}
 use mathlib.Core.Option.{Option, none, some, Option·none-ne-some, Option·some-injective}
 use Rattle.theory.specs.Ballots.{tick, proposer, Lease}
-use Rattle.theory.specs.Model.{Setup, Message, prepareRequest, prepareResponse, idle, asking}
-use Rattle.theory.specs.Model.{Host, World, Sent, put, withRound, withAsking, Higher}
+use Rattle.theory.specs.Model.{Setup, Message, prepareRequest, prepareResponse, release, idle}
+use Rattle.theory.specs.Model.{asking, Host, World, Sent, put, withRound, withAsking, Higher}
 use Rattle.theory.specs.Model.{nextTick, NewTick}
 use Rattle.theory.specs.Invariant.{Proposed, Below, Heard, Reply, MessageOk, Asking}
 use Rattle.theory.specs.Invariant.{Invariant}
-use Rattle.theory.proofs.Act.{kind, Owed, held}
+use Rattle.theory.proofs.Act.{kind, released-before, Owed, held}
 use Rattle.theory.proofs.ActParts.{plain-owed, proposed-before, host-with-round, keep-round}
 
 module _ {𝒞 : Setup} where
@@ -32,6 +32,12 @@ module _ {𝒞 : Setup} where
         → tick b + T ≤ s .host h .wait = rw ours at (I .messages _ p .spent) in
         omega (arith, z (omega arith))
 
+    -- no release of a host is above its new ballot
+    highest : (b r : ℕ) → tick b ≡ nextTick (s .host h) (s .clock h) → proposer b ≡ h
+        → Sent s (release r) → proposer r ≡ h → b < r → ⊥
+    highest b r now ours q i l =
+        let z : tick r ≤ s .clock h = rw i at (I .messages _ q) in omega arith
+
     pub keep-start : (b d : ℕ) (R : Hosts) → tick b ≡ nextTick (s .host h) (s .clock h)
         → proposer b ≡ h →
         ((x : ℕ) → In x R → ⊥) → s .host h .wait ≤ s .clock h → NewTick (s .host h) (s .clock h)
@@ -46,6 +52,7 @@ module _ {𝒞 : Setup} where
         subst (λ k. MessageOk (put s h w m) k) (Option·some-injective _ _ z)
         (λ y. omega (arith, I .near h y)))
         (host-with-round I h (nextTick v (s .clock h) + 1) (asking b d R none) m F (omega arith)
+        (omega arith)
         (record {
           ours = ours;
           unsaid = λ o e p.
@@ -54,6 +61,9 @@ module _ {𝒞 : Setup} where
           spent = omega arith;
           old = λ y. omega (arith, I .near h y);
           short = short;
+          unreleased = λ r.
+              highest b (r .ballot) now ours
+              (released-before m (omega arith) (r .ballot) (r .sent)) (r .by-owner) (r .higher);
           below = λ a q. absurd (Option·none-ne-some a q);
           heard = λ x i. absurd (nobody x i);
         }))
@@ -82,6 +92,7 @@ module _ {𝒞 : Setup} where
           spent = Q .spent;
           old = Q .old;
           short = Q .short;
+          unreleased = Q .unreleased;
           below = one-of which;
           heard = λ y i. by-whom y (more y i);
         })

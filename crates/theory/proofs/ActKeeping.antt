@@ -6,18 +6,18 @@ use native.Mathlib.Nat.{le-refl}
 use mathlib.Core.Path.{_≡_, refl, ap, subst}
 use mathlib.Core.Logic.{_⊎_, inl, inr}
 use mathlib.Core.Option.{Option, none, some, Option·none-ne-some, Option·some-injective}
-use Rattle.theory.specs.Ballots.{Lease, Holder}
+use Rattle.theory.specs.Ballots.{Lease}
 use Rattle.theory.specs.Model.{Setup, Message, prepareRequest, prepareResponse}
 use Rattle.theory.specs.Model.{proposeRequest, proposeResponse, learn, Host, World, Sent, put}
-use Rattle.theory.specs.Model.{restarted, withVote, withHolder, accepting, Above, NotBelow}
-use Rattle.theory.specs.Invariant.{Voted, Proposed, Live, Reply, Holding, MessageOk, HostOk}
-use Rattle.theory.specs.Invariant.{Invariant}
+use Rattle.theory.specs.Model.{restarted, withVote, withHolder, accepting, Learnable, Above}
+use Rattle.theory.specs.Model.{NotBelow}
+use Rattle.theory.specs.Invariant.{Voted, Proposed, Live, Reply, MessageOk, HostOk, Invariant}
 use Rattle.theory.proofs.Ballots.{changed-here, with-cases}
-use Rattle.theory.proofs.Later.{Fresh, Later, live-before, holding-kept, accepted-kept-on}
-use Rattle.theory.proofs.Later.{round-kept, named-kept}
+use Rattle.theory.proofs.Later.{Fresh, Later, live-before, accepted-kept-on, round-kept}
+use Rattle.theory.proofs.Later.{named-kept}
 use Rattle.theory.proofs.Act.{kind, Owed, later, held}
 use Rattle.theory.proofs.ActParts.{top-promised, voted-top, plain-owed, voted-before}
-use Rattle.theory.proofs.ActParts.{proposed-before, mute}
+use Rattle.theory.proofs.ActParts.{proposed-before, mute, firm, keep-named}
 
 module _ {𝒞 : Setup} where
   module _ {s : World 𝒞} (I : Invariant s) (h : ℕ) where
@@ -62,8 +62,10 @@ module _ {𝒞 : Setup} where
               accepted-kept-on I L h (v .wait) (v .wait) (v .accepted) (v .accepted)
               (voted-before I h w m (omega arith) h) (le-refl _) (le-refl _) (H .accepted-kept);
           round-ok =
-              round-kept I L h (v .last) (v .round) (mute I h w m (omega arith) h) (H .round-ok);
-          named-ok = named-kept I L h (v .named) refl (H .named-ok);
+              round-kept I L h (v .last) (v .round) (mute I h w m (omega arith) h)
+              (firm I h w m (omega arith) h) (H .round-ok);
+          named-ok =
+              named-kept I L h (v .named) refl (firm I h w m (omega arith) h) (H .named-ok);
         })
         (λ b o e q. absurd (omega (arith, ap kind q)))
       where
@@ -117,8 +119,10 @@ module _ {𝒞 : Setup} where
               (L .sent _ q, omega arith);
           accepted-kept = λ c o' e' x p k l. topped c o' e' (with-cases m x) (unsaid c o' e' p) k l;
           round-ok =
-              round-kept I L h (v .last) (v .round) (mute I h w m (omega arith) h) (H .round-ok);
-          named-ok = named-kept I L h (v .named) refl (H .named-ok);
+              round-kept I L h (v .last) (v .round) (mute I h w m (omega arith) h)
+              (firm I h w m (omega arith) h) (H .round-ok);
+          named-ok =
+              named-kept I L h (v .named) refl (firm I h w m (omega arith) h) (H .named-ok);
         })
         (λ b o e q. absurd (omega (arith, ap kind q)))
       where
@@ -154,6 +158,7 @@ module _ {𝒞 : Setup} where
           memory = inl (omega (arith, above), le-refl _);
           vote = λ x c z. (cc, let r : b ≡ c = cc in subst (λ c. Fresh s h c) r free);
           proposal = λ b o e z. absurd (omega (arith, ap kind z));
+          release = λ b z. absurd (omega (arith, ap kind z));
         }
 
         L : Later s (put s h w m)
@@ -170,43 +175,13 @@ module _ {𝒞 : Setup} where
             (arith, top-promised H, H .accepted-kept c o' e' x p (live-before I L c o' e' p k) l)
         topped c o' e' (inr z) p k l = let r : b ≡ c = cc in omega arith
 
-    pub keep-name : (b o f : ℕ) → Sent s (learn b o f) → s .clock h < f →
+    pub keep-name : (b o f : ℕ) → Sent s (learn b o f) → s .clock h < f → Learnable h o →
         Invariant
         (put s h (withHolder (s .host h) (record { ballot = b; owner = o; end = f })) none)
-    keep-name b o f m l =
-        held I h w none F (λ m' q. absurd (Option·none-ne-some m' q))
+    keep-name b o f m l other =
+        keep-named I h _
         (record {
-          wait-short = H .wait-short;
-          promised-old = H .promised-old;
-          accepted-ok = λ a q. (L .sent _ (H .accepted-ok a q .0), H .accepted-ok a q .1);
-          accepted-kept =
-              accepted-kept-on I L h (v .wait) (v .wait) (v .accepted) (v .accepted) (λ b q. q)
-              (le-refl _) (le-refl _) (H .accepted-kept);
-          round-ok =
-              round-kept I L h (v .last) (v .round) (mute I h w none (omega arith) h) (H .round-ok);
-          named-ok = λ k q.
-              subst
-              (λ k.
-              Holding (put s h w none) (k .ballot) (k .owner) (k .end) × (s .clock h < k .end))
-              (Option·some-injective n k q)
-              (holding-kept I L b o f (I .messages _ m), l);
+          holding = I .messages _ m;
+          ahead = l;
+          unreleased = λ i. absurd (omega (arith, other));
         })
-        (λ b o e q. absurd (Option·none-ne-some _ q))
-      where
-        v : Host 𝒞
-        v = s .host h
-
-        n : Holder
-        n = record { ballot = b; owner = o; end = f }
-
-        w : Host 𝒞
-        w = withHolder v n
-
-        H : HostOk s h v
-        H = I .hosts h
-
-        F : Owed s h w none
-        F = plain-owed I h w none (omega arith) (le-refl _) (inl (le-refl _, le-refl _))
-
-        L : Later s (put s h w none)
-        L = later I h w none F

@@ -1,5 +1,5 @@
 -- The acts of the proposing round keep the invariant: proposing, counting a vote, telling of the
--- holder. Assumes nothing.
+-- holder, naming it. Assumes nothing.
 use Prim.Native.Nat.{ℕ, _+_, _≤_, _<_}
 use native.Mathlib.Omega.{arith}
 use native.Mathlib.Nat.{le-refl}
@@ -8,15 +8,16 @@ use mathlib.Core.Logic.{_⊎_, inl, inr}
 use mathlib.Core.Option.{Option, none, some, Option·some-injective}
 use Rattle.theory.specs.Ballots.{tick, proposer, Lease, top}
 use Rattle.theory.specs.Model.{Setup, Message, proposeRequest, proposeResponse, learn, asking}
-use Rattle.theory.specs.Model.{proposing, Host, World, Sent, put, withRound, HoldersEnd}
-use Rattle.theory.specs.Model.{Choice, free, over, renew, other}
+use Rattle.theory.specs.Model.{proposing, Host, World, Sent, put, withRound, withHolder}
+use Rattle.theory.specs.Model.{HoldersEnd, Choice, free, over, renew, other}
 use Rattle.theory.specs.Invariant.{Voted, Proposed, Live, Proposal, Holding, MessageOk}
 use Rattle.theory.specs.Invariant.{Asking, Proposing, Invariant}
 use Rattle.theory.proofs.Ballots.{le-or-lt, with-new}
-use Rattle.theory.proofs.Later.{Later, message-kept, joined-kept, holding-kept, round-kept}
+use Rattle.theory.proofs.Later.{Later, released-back, message-kept, joined-kept}
+use Rattle.theory.proofs.Later.{holding-kept, round-kept}
 use Rattle.theory.proofs.Act.{kind, Owed, NewProposal, later, held}
 use Rattle.theory.proofs.ActParts.{come-dead, under, joined-shut, plain-owed, voted-before}
-use Rattle.theory.proofs.ActParts.{mute, host-with-round, keep-round}
+use Rattle.theory.proofs.ActParts.{mute, firm, host-with-round, keep-round, keep-named}
 
 module _ {𝒞 : Setup} where
   open Setup 𝒞 using (longest as T, spread as S, Hosts, In, Majority)
@@ -32,8 +33,12 @@ module _ {𝒞 : Setup} where
         (λ m' z.
         subst (λ k. MessageOk (put s h w m) k) (Option·some-injective _ _ z)
         (message-kept I L (proposeRequest b o e) proposal))
-        (host-with-round I h (v .last) (proposing b o e R') m F (omega arith)
-        (record { proposed = with-new; votes = λ x i. absurd (nobody x i) }))
+        (host-with-round I h (v .last) (proposing b o e R') m F (omega arith) (omega arith)
+        (record {
+          proposed = with-new;
+          unreleased = λ r. Q .unreleased (released-back (firm I h w m (omega arith) h) r);
+          votes = λ x i. absurd (nobody x i);
+        }))
         (λ b' o' e' z. new b' o' e' (Option·some-injective _ _ z))
       where
         v : Host 𝒞
@@ -56,6 +61,7 @@ module _ {𝒞 : Setup} where
           proposal = λ c o' e' z. let r : b ≡ c = cc in
               subst (λ c. (proposer c ≡ h) × ((o' e' : ℕ) → Proposed s c o' e' → ⊥)) r
               (Q .ours, Q .unsaid);
+          release = λ c z. absurd (omega (arith, ap kind z));
         }
 
         L : Later s (put s h w m)
@@ -145,24 +151,40 @@ module _ {𝒞 : Setup} where
         → Invariant (put s h (withRound (s .host h) (proposing b o e R')) none)
     keep-count b o e R R' x q m more =
         keep-round I h (proposing b o e R')
-        (record { proposed = Q .proposed; votes = λ y i. by-whom y (more y i) })
+        (record {
+          proposed = Q .proposed;
+          unreleased = Q .unreleased;
+          votes = λ y i. by-whom y (more y i);
+        })
       where
-        Q : Proposing s b o e R
+        Q : Proposing s h b o e R
         Q = rw q at (I .hosts h .round-ok)
 
         by-whom : (y : ℕ) → (y ≡ x) ⊎ In y R → Voted s y b
         by-whom y (inl z) = rw z m
         by-whom y (inr i) = Q .votes y i
 
+    -- a lease that a majority voted for; the keepers' end is the spread after the holder's
+    won : (b o e f : ℕ) (R : Hosts) → Proposing s h b o e R → Majority R → HoldersEnd S e f
+        → Holding s b o f
+    won b o e f R Q maj apart =
+        let z : e ≡ f + S = omega (arith, apart) in
+        record {
+          proposed = rw z at (Q .proposed);
+          chosen = record { set = R; majority = maj; votes = Q .votes };
+        }
+
     pub keep-tell : (b o e f : ℕ) (R : Hosts) → s .host h .round ≡ proposing b o e R → Majority R
         → HoldersEnd S e f →
         Invariant (put s h (s .host h) (some (learn b o f)))
     keep-tell b o e f R q maj apart =
         held I h v m F
-        (λ m' z. subst (λ k. MessageOk (put s h v m) k) (Option·some-injective _ _ z) told)
-        (host-with-round I h (v .last) (v .round) m F (omega arith)
+        (λ m' z.
+        subst (λ k. MessageOk (put s h v m) k) (Option·some-injective _ _ z)
+        (holding-kept I L b o f (won b o e f R Q maj apart)))
+        (host-with-round I h (v .last) (v .round) m F (omega arith) (omega arith)
         (round-kept I L h (v .last) (v .round) (mute I h v m (omega arith) h)
-        (I .hosts h .round-ok)))
+        (firm I h v m (omega arith) h) (I .hosts h .round-ok)))
         (λ b o e q. absurd (omega (arith, ap kind q)))
       where
         v : Host 𝒞
@@ -177,17 +199,18 @@ module _ {𝒞 : Setup} where
         L : Later s (put s h v m)
         L = later I h v m F
 
-        Q : Proposing s b o e R
+        Q : Proposing s h b o e R
         Q = rw q at (I .hosts h .round-ok)
 
-        -- the keepers' end is the spread after the holder's
-        earlier : Proposed s b o (f + S)
-        earlier = let z : e ≡ f + S = omega (arith, apart) in rw z at (Q .proposed)
-
-        told : Holding (put s h v m) b o f
-        told =
-            holding-kept I L b o f
-            (record {
-              proposed = earlier;
-              chosen = record { set = R; majority = maj; votes = Q .votes };
-            })
+    pub keep-win : (b o e f : ℕ) (R : Hosts) → s .host h .round ≡ proposing b o e R → Majority R
+        → HoldersEnd S e f → s .clock h < f →
+        Invariant
+        (put s h (withHolder (s .host h) (record { ballot = b; owner = o; end = f })) none)
+    keep-win b o e f R q maj apart l =
+        let Q : Proposing s h b o e R = rw q at (I .hosts h .round-ok) in
+        keep-named I h _
+        (record {
+          holding = won b o e f R Q maj apart;
+          ahead = l;
+          unreleased = λ i. Q .unreleased;
+        })

@@ -1,14 +1,16 @@
--- Agreement: in every world that is reached from an opened one, two hosts that name a holder name
--- the same owner. Assumes nothing.
+-- Agreement: the claims of specs/Agreement, from the invariant, which holds in every world that is
+-- reached from an opened one. Assumes nothing.
 use Prim.Native.Nat.{ℕ, _+_, _≤_, _<_}
 use native.Mathlib.Omega.{arith}
-use mathlib.Core.Path.{_≡_, sym}
+use mathlib.Core.Path.{_≡_, sym, _∙_}
 use mathlib.Core.Logic.{_⊎_, inl, inr}
-use mathlib.Core.Option.{some, Option·none-ne-some}
+use mathlib.Core.Option.{Option·none-ne-some}
 use mathlib.Core.List.{List·Memᴰ·not-nil}
 use Rattle.theory.specs.Ballots.{Holder}
-use Rattle.theory.specs.Model.{Setup, World, opened, Step, act, age, Reach, here, then}
-use Rattle.theory.specs.Invariant.{Blocked, Live, Chosen, Holding, Invariant}
+use Rattle.theory.specs.Model.{Setup, World, opened, Names, Step, act, age, Reach, here, then}
+use Rattle.theory.specs.Invariant.{Blocked, Released, Live, Chosen, Holding, Naming}
+use Rattle.theory.specs.Invariant.{Invariant}
+use Rattle.theory.specs.Agreement.{NeverReleased, Narrow, Wide, Ahead}
 use Rattle.theory.proofs.Ballots.{le-or-lt}
 use Rattle.theory.proofs.Steps.{keep-age, keep-act}
 
@@ -23,33 +25,52 @@ module _ {𝒞 : Setup} where
       let (x, i, j) = meet (c .set) (k .set) (c .majority) (k .majority) in
       k .silent x j (c .votes x i)
 
-  -- a holder whose end a clock has not come to is live
+  -- a holder whose end a clock has not come to, and of which its owner has not let go, is live
   pub holding-live : {s : World 𝒞} {b o f : ℕ} (x : ℕ) → Holding s b o f → s .clock x < f
-      → Live s b o (f + S)
-  holding-live x h l =
-      record { not-dead = λ d. omega (arith, d x); not-blocked = chosen-open (h .chosen) }
+      → (Released s b o → ⊥) → Live s b o (f + S)
+  holding-live x h l k =
+      record {
+        not-dead = λ d. omega (arith, d x);
+        not-blocked = chosen-open (h .chosen);
+        not-released = k;
+      }
 
-  agree-lt : {s : World 𝒞} → Invariant s → (x y : ℕ) (m n : Holder) → s .host x .named ≡ some m
-      → s .host y .named ≡ some n →
-      m .ballot < n .ballot → m .owner ≡ n .owner
-  agree-lt I x y m n p q l =
-      let h = I .hosts x .named-ok m p in
-      let k = I .hosts y .named-ok n q in
-      I .main _ _ _ _ _ _ (h .0 .proposed) (k .0 .proposed) l (holding-live x (h .0) (h .1)) .0
+  agree-lt : {s : World 𝒞} {x y : ℕ} {m n : Holder} → Invariant s → Naming s x m → Naming s y n
+      → (Released s (m .ballot) (m .owner) → ⊥) → m .ballot < n .ballot → m .owner ≡ n .owner
+  agree-lt {s} {x} I p q k l =
+      I .main _ _ _ _ _ _ (p .holding .proposed) (q .holding .proposed) l
+      (holding-live x (p .holding) (p .ahead) k) .0
 
-  pub agree : {s : World 𝒞} → Invariant s → (x y : ℕ) (m n : Holder) → s .host x .named ≡ some m
-      → s .host y .named ≡ some n →
-      m .owner ≡ n .owner
-  agree {s} I x y m n p q = go (le-or-lt (n .ballot) (m .ballot)) (le-or-lt (m .ballot) (n .ballot))
+  -- two holders of which their owners have not let go have the same owner
+  pub agree : {s : World 𝒞} {x y : ℕ} {m n : Holder} → Invariant s → Naming s x m → Naming s y n
+      → (Released s (m .ballot) (m .owner) → ⊥) → (Released s (n .ballot) (n .owner) → ⊥)
+      → m .owner ≡ n .owner
+  agree {s} {x} {y} {m} {n} I p q k k' =
+      go (le-or-lt (n .ballot) (m .ballot)) (le-or-lt (m .ballot) (n .ballot))
     where
       go : (n .ballot ≤ m .ballot) ⊎ (m .ballot < n .ballot) → (m .ballot ≤ n .ballot)
           ⊎ (n .ballot < m .ballot) → m .owner ≡ n .owner
-      go (inr l) k = agree-lt I x y m n p q l
-      go (inl l) (inr k) = sym (agree-lt I y x n m q p k)
-      go (inl l) (inl k) =
+      go (inr l) r = agree-lt I p q k l
+      go (inl l) (inr r) = sym (agree-lt I q p k' r)
+      go (inl l) (inl r) =
           let e : m .ballot ≡ n .ballot = omega arith in
-          I .one _ _ _ _ _ (rw e at (I .hosts x .named-ok m p .0 .proposed))
-          (I .hosts y .named-ok n q .0 .proposed) .0
+          I .one _ _ _ _ _ (rw e at (p .holding .proposed)) (q .holding .proposed) .0
+
+  -- a host that names itself has not let go
+  agree-narrow : {s : World 𝒞} → Invariant s → (x y : ℕ) → Names (s .host x) x
+      → Names (s .host y) y → x ≡ y
+  agree-narrow I x y (m, p, i) (n, q, j) =
+      let a = I .hosts x .named-ok m p in
+      let b = I .hosts y .named-ok n q in
+      sym i ∙ agree I a b (rw i (a .unreleased i)) (rw j (b .unreleased j)) ∙ j
+
+  agree-wide : {s : World 𝒞} → Invariant s → NeverReleased s → (x y o p : ℕ)
+      → Names (s .host x) o → Names (s .host y) p → o ≡ p
+  agree-wide I never x y o p (m, e, i) (n, f, j) =
+      sym i
+      ∙ agree I (I .hosts x .named-ok m e) (I .hosts y .named-ok n f)
+      (λ r. never (r .ballot) (r .sent)) (λ r. never (r .ballot) (r .sent))
+      ∙ j
 
   -- ---- opening, a step, any number of steps
 
@@ -77,9 +98,13 @@ module _ {𝒞 : Setup} where
   inv-reach I here = I
   inv-reach I (then r a) = inv-step (inv-reach I r) a
 
-  -- demand 3, of the model: whatever happens after opening, two hosts that name a holder name the
-  -- same owner
-  pub agreement : (c : ℕ) {s : World 𝒞} → Reach (opened c) s → (x y : ℕ) (m n : Holder)
-      → s .host x .named ≡ some m → s .host y .named ≡ some n →
-      m .owner ≡ n .owner
-  agreement c r = agree (inv-reach (inv-opened c) r)
+  -- ---- the claims
+
+  pub narrow : Narrow 𝒞
+  narrow c s r = agree-narrow (inv-reach (inv-opened c) r)
+
+  pub wide : Wide 𝒞
+  wide c s r = agree-wide (inv-reach (inv-opened c) r)
+
+  pub ahead : Ahead 𝒞
+  ahead c s r x n q = inv-reach (inv-opened c) r .hosts x .named-ok n q .ahead

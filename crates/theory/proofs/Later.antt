@@ -7,11 +7,11 @@ use mathlib.Core.Logic.{_⊎_, inl, inr}
 use mathlib.Core.Option.{Option, some}
 use Rattle.theory.specs.Ballots.{tick, proposer, Lease, Holder, top}
 use Rattle.theory.specs.Model.{Setup, Message, prepareRequest, prepareResponse}
-use Rattle.theory.specs.Model.{proposeRequest, proposeResponse, learn, Round, idle, asking}
-use Rattle.theory.specs.Model.{proposing, Host, World, Sent}
-use Rattle.theory.specs.Invariant.{Voted, Proposed, Joined, Shut, Live, Chosen, Old, Below}
-use Rattle.theory.specs.Invariant.{Heard, Proposal, Holding, MessageOk, RoundOk, HostOk}
-use Rattle.theory.specs.Invariant.{Invariant}
+use Rattle.theory.specs.Model.{proposeRequest, proposeResponse, learn, release, Round, idle}
+use Rattle.theory.specs.Model.{asking, proposing, Host, World, Sent}
+use Rattle.theory.specs.Invariant.{Voted, Proposed, Joined, Shut, Released, Live, Chosen, Old}
+use Rattle.theory.specs.Invariant.{Below, Heard, Proposal, Holding, MessageOk, RoundOk}
+use Rattle.theory.specs.Invariant.{Naming, HostOk, Invariant}
 use Rattle.theory.proofs.Ballots.{le-or-lt}
 
 module _ {𝒞 : Setup} where
@@ -44,6 +44,20 @@ module _ {𝒞 : Setup} where
   -- from s to s' nothing was proposed with a ballot of x's
   pub record Mute (s s' : World 𝒞) (x : ℕ) : Type 0 where
     pub proposed : (b o e : ℕ) → proposer b ≡ x → Proposed s' b o e → Proposed s b o e
+
+  -- from s to s' x let go of nothing
+  pub record Firm (s s' : World 𝒞) (x : ℕ) : Type 0 where
+    pub released : (r : ℕ) → proposer r ≡ x → Sent s' (release r) → Sent s (release r)
+
+  -- what x has let go of in s', where it let go of nothing from s to s'
+  pub released-back : {s s' : World 𝒞} {x b : ℕ} → Firm s s' x → Released s' b x → Released s b x
+  released-back firm r =
+      record {
+        ballot = r .ballot;
+        sent = firm .released (r .ballot) (r .by-owner) (r .sent);
+        by-owner = r .by-owner;
+        higher = r .higher;
+      }
 
   module _ {s s' : World 𝒞} (I : Invariant s) (L : Later s s') where
     -- a proposal's end is within T of its tick
@@ -105,6 +119,8 @@ module _ {𝒞 : Setup} where
         silent = λ x i v. silent-kept x b o e p (k .shut x i) (k .silent x i) v;
         shut = λ x i. shut-kept x b e (end-short b o e p) (k .shut x i);
       });
+      not-released = λ r.
+          l .not-released (released-back (record { released = λ c i q. L .sent _ q }) r);
     }
 
     pub chosen-kept : (b : ℕ) → Chosen s b → Chosen s' b
@@ -161,6 +177,7 @@ module _ {𝒞 : Setup} where
     message-kept (proposeResponse x b) h =
         record { owner = h .owner; end = h .end; proposed = L .sent _ (h .proposed) }
     message-kept (learn b o f) h = holding-kept b o f h
+    message-kept (release b) h = omega (arith, L .clock (proposer b))
 
     -- ---- a host and its parts, where the host did nothing that they rest on
 
@@ -175,38 +192,48 @@ module _ {𝒞 : Setup} where
         go (inl p) = omega (arith, k b o e (quiet b v) p (live-before b o e p l) (omega arith))
         go (inr n) = absurd (n x v)
 
-    pub round-kept : (x l : ℕ) (r : Round 𝒞) → Mute s s' x → RoundOk s x l r → RoundOk s' x l r
-    round-kept x l idle mute h = tt
-    round-kept x l (asking b d R K) mute h = record {
+    pub round-kept : (x l : ℕ) (r : Round 𝒞) → Mute s s' x → Firm s s' x → RoundOk s x l r
+        → RoundOk s' x l r
+    round-kept x l idle mute firm h = tt
+    round-kept x l (asking b d R K) mute firm h = record {
       ours = h .ours;
       unsaid = λ o e p. h .unsaid o e (mute .proposed b o e (h .ours) p);
       spent = h .spent;
       old = old-kept b (h .old);
       short = h .short;
+      unreleased = λ k. h .unreleased (released-back firm k);
       below = below-kept b K (h .below);
       heard = λ y i. heard-kept y b K (h .heard y i);
     }
-    round-kept x l (proposing b o e R) mute h =
-        record { proposed = L .sent _ (h .proposed); votes = λ y i. L .sent _ (h .votes y i) }
+    round-kept x l (proposing b o e R) mute firm h = record {
+      proposed = L .sent _ (h .proposed);
+      unreleased = λ k. h .unreleased (released-back firm k);
+      votes = λ y i. L .sent _ (h .votes y i);
+    }
 
-    pub named-kept : (x : ℕ) (N : Option Holder) → s' .clock x ≡ s .clock x →
-        ((n : Holder) → N ≡ some n → Holding s (n .ballot) (n .owner) (n .end)
-        × (s .clock x < n .end)) →
-        (n : Holder) → N ≡ some n → Holding s' (n .ballot) (n .owner) (n .end)
-        × (s' .clock x < n .end)
-    named-kept x N c k n q = (holding-kept _ _ _ (k n q .0), omega (arith, k n q .1))
+    pub naming-kept : (x : ℕ) (n : Holder) → Firm s s' x → s' .clock x < n .end → Naming s x n
+        → Naming s' x n
+    naming-kept x n firm l k = record {
+      holding = holding-kept _ _ _ (k .holding);
+      ahead = l;
+      unreleased = λ i r. k .unreleased i (released-back firm r);
+    }
+
+    pub named-kept : (x : ℕ) (N : Option Holder) → s' .clock x ≡ s .clock x → Firm s s' x →
+        ((n : Holder) → N ≡ some n → Naming s x n) → (n : Holder) → N ≡ some n → Naming s' x n
+    named-kept x N c firm k n q = naming-kept x n firm (omega (arith, k n q .ahead)) (k n q)
 
     -- a host that took no part
     pub host-kept : (x : ℕ) (v : Host 𝒞) → s' .clock x ≡ s .clock x
         → ((b : ℕ) → Voted s' x b → Voted s x b) →
-        Mute s s' x → HostOk s x v → HostOk s' x v
-    host-kept x v c quiet mute h = record {
+        Mute s s' x → Firm s s' x → HostOk s x v → HostOk s' x v
+    host-kept x v c quiet mute firm h = record {
       wait-short = omega (arith, h .wait-short);
       promised-old = λ b l. omega (arith, h .promised-old b l);
       accepted-ok = λ a q. (L .sent _ (h .accepted-ok a q .0), h .accepted-ok a q .1);
       accepted-kept =
           accepted-kept-on x (v .wait) (v .wait) (v .accepted) (v .accepted) quiet (omega arith)
           (omega arith) (h .accepted-kept);
-      round-ok = round-kept x (v .last) (v .round) mute (h .round-ok);
-      named-ok = named-kept x (v .named) c (h .named-ok);
+      round-ok = round-kept x (v .last) (v .round) mute firm (h .round-ok);
+      named-ok = named-kept x (v .named) c firm (h .named-ok);
     }

@@ -1,4 +1,4 @@
--- Agreement in the theory: each step keeps the invariant, and under it hosts name no two owners.
+-- Agreement in the theory: each step keeps the invariant, and the claims follow from it.
 pub mod Ballots
 pub mod Later
 pub mod Act
@@ -6,5 +6,6 @@ pub mod ActParts
 pub mod ActAsking
 pub mod ActProposing
 pub mod ActKeeping
+pub mod ActReleasing
 pub mod Steps
 pub mod Agreement

@@ -7,13 +7,15 @@ use mathlib.Core.Option.{Option, some, Option·none-ne-some}
 use Rattle.theory.specs.Ballots.{Lease, Holder, top}
 use Rattle.theory.specs.Model.{Setup, Message, Host, World, put, Expired, AgedLease, Act}
 use Rattle.theory.specs.Model.{restart, giveUp, start, promise, hear, propose, accept, count}
-use Rattle.theory.specs.Model.{tell, name, Aged, aged}
+use Rattle.theory.specs.Model.{tell, win, name, letGo, obey, Aged, aged}
 use Rattle.theory.specs.Invariant.{Voted, Proposed, Live, HostOk, Invariant}
-use Rattle.theory.proofs.Later.{Later, live-before, message-kept, round-kept, holding-kept}
+use Rattle.theory.proofs.Later.{Later, Firm, live-before, message-kept, round-kept}
+use Rattle.theory.proofs.Later.{naming-kept}
 use Rattle.theory.proofs.ActParts.{under}
 use Rattle.theory.proofs.ActAsking.{keep-giveUp, keep-start, keep-hear}
-use Rattle.theory.proofs.ActProposing.{keep-propose, keep-count, keep-tell}
+use Rattle.theory.proofs.ActProposing.{keep-propose, keep-count, keep-tell, keep-win}
 use Rattle.theory.proofs.ActKeeping.{keep-restart, keep-promise, keep-accept, keep-name}
+use Rattle.theory.proofs.ActReleasing.{keep-letGo, keep-obey}
 
 module _ {𝒞 : Setup} where
   open Setup 𝒞 using (spread as S)
@@ -54,15 +56,18 @@ module _ {𝒞 : Setup} where
       round-ok =
           rw (A x .same-last, A x .same-round)
           (round-kept I older x (s .host x .last) (s .host x .round)
-          (record { proposed = λ b o e i p. p }) (H .round-ok));
+          (record { proposed = λ b o e i p. p }) firm (H .round-ok));
       named-ok = λ n q.
           let g = A x .named-aged n q in
           let k = H .named-ok n (g .0) in
-          (holding-kept I older _ _ _ (k .0), still n (k .1) (g .1));
+          naming-kept I older x n firm (still n (k .ahead) (g .1)) k;
     }
       where
         H : HostOk s x (s .host x)
         H = I .hosts x
+
+        firm : Firm s (aged s c f) x
+        firm = record { released = λ r i q. q }
 
         still-ok : (a : Lease) → f x .accepted ≡ some a
             → AgedLease (c x) (s .host x .accepted) (f x .accepted) →
@@ -107,4 +112,7 @@ module _ {𝒞 : Setup} where
     keep-act v m (accept b o e x0 x1 x2 x3) = keep-accept I h b o e x0 x1 x2 x3
     keep-act v m (count b o e R R' x x0 x1 x2) = keep-count I h b o e R R' x x0 x1 x2
     keep-act v m (tell b o e f R x0 x1 x2) = keep-tell I h b o e f R x0 x1 x2
-    keep-act v m (name b o f x0 x1) = keep-name I h b o f x0 x1
+    keep-act v m (win b o e f R x0 x1 x2 x3) = keep-win I h b o e f R x0 x1 x2 x3
+    keep-act v m (name b o f x0 x1 x2) = keep-name I h b o f x0 x1 x2
+    keep-act v m (letGo b x0 x1 x2 x3 x4) = keep-letGo I h b x0 x1 x2 x3 x4
+    keep-act v m (obey b A N x0 x1 x2 x3 x4) = keep-obey I h b A N x0 x1 x2 x3 x4

@@ -3,22 +3,22 @@
 --
 -- A disjunction is written as an implication where that is enough: `Joined s x b` says that x has
 -- promised b or higher, or waits until tick b + T, as "if the promise is below b, then ..". That a
--- proposal is lost (dead or blocked) is never a disjunct: each claim says "while the proposal is
--- live". What is claimed is then decidable, and nothing here needs excluded middle. Assumes
--- nothing.
+-- proposal is lost (dead, blocked or released) is never a disjunct: each claim says "while the
+-- proposal is live". What is claimed is then decidable, and nothing here needs excluded middle.
+-- Assumes nothing.
 use Prim.Native.Nat.{ℕ, _+_, _≤_, _<_}
 use mathlib.Core.Path.{_≡_}
 use mathlib.Core.Option.{Option, some}
 use Rattle.theory.specs.Ballots.{tick, proposer, Lease, Holder, top}
 use Rattle.theory.specs.Model.{Setup, Message, prepareRequest, prepareResponse}
-use Rattle.theory.specs.Model.{proposeRequest, proposeResponse, learn, Round, idle, asking}
-use Rattle.theory.specs.Model.{proposing, Host, World, Sent}
+use Rattle.theory.specs.Model.{proposeRequest, proposeResponse, learn, release, Round, idle}
+use Rattle.theory.specs.Model.{asking, proposing, Host, World, Sent}
 
 module _ {𝒞 : Setup} where
   open Setup 𝒞 using (longest as T, spread as S, Hosts, In, Majority)
 
-  -- ---- facts of a world; every step keeps them, but that a live proposal may come to be dead or
-  -- blocked
+  -- ---- facts of a world; every step keeps them, but that a live proposal may come to be dead,
+  -- blocked or released
 
   abbrev pub Voted : World 𝒞 → ℕ → ℕ → Type 0
   Voted s x b = Sent s (proposeResponse x b)
@@ -46,9 +46,18 @@ module _ {𝒞 : Setup} where
     pub silent : (x : ℕ) → In x set → Voted s x b → ⊥
     pub shut : (x : ℕ) → In x set → Shut s x b e
 
+  -- the host o has let go of what is its own under the ballot b. Not of what others own there: a
+  -- lease may be proposed under a ballot below a release that came before it in time.
+  pub record Released (s : World 𝒞) (b o : ℕ) : Type 0 where
+    pub ballot : ℕ
+    pub sent : Sent s (release ballot)
+    pub by-owner : proposer ballot ≡ o
+    pub higher : b < ballot
+
   pub record Live (s : World 𝒞) (b o e : ℕ) : Type 0 where
     pub not-dead : Dead s e → ⊥
     pub not-blocked : Blocked s b e → ⊥
+    pub not-released : Released s b o → ⊥
 
   pub record Chosen (s : World 𝒞) (b : ℕ) : Type 0 where
     pub set : Hosts
@@ -96,12 +105,17 @@ module _ {𝒞 : Setup} where
     pub proposed : Proposed s b o (f + S)
     pub chosen : Chosen s b
 
+  -- a release: its tick has come for its proposer
+  abbrev pub Come : World 𝒞 → ℕ → Type 0
+  Come s b = tick b ≤ s .clock (proposer b)
+
   abbrev pub MessageOk : World 𝒞 → Message → Type 0
   MessageOk s (prepareRequest b) = Old s b
   MessageOk s (prepareResponse x b A) = Reply s x b A
   MessageOk s (proposeRequest b o e) = Proposal s b e
   MessageOk s (proposeResponse x b) = Vote s b
   MessageOk s (learn b o f) = Holding s b o f
+  MessageOk s (release b) = Come s b
 
   -- ---- what is true of each host
 
@@ -112,20 +126,30 @@ module _ {𝒞 : Setup} where
     pub spent : tick b < last
     pub old : Old s b
     pub short : d + S ≤ T
+    pub unreleased : Released s b p → ⊥
     pub below : Below s b K
     pub heard : (x : ℕ) → In x R → Heard s x b K
 
-  -- a host proposes; whose ballot it is, the proof does not need
-  pub record Proposing (s : World 𝒞) (b o e : ℕ) (R : Hosts) : Type 0 where
+  -- p proposes; whose ballot it is, the proof does not need
+  pub record Proposing (s : World 𝒞) (p b o e : ℕ) (R : Hosts) : Type 0 where
     pub proposed : Proposed s b o e
+    pub unreleased : Released s b p → ⊥
     pub votes : (x : ℕ) → In x R → Voted s x b
 
   abbrev pub RoundOk : World 𝒞 → ℕ → ℕ → Round 𝒞 → Type 0
   RoundOk s p last idle = Unit {0}
   RoundOk s p last (asking b d R K) = Asking s p last b d R K
-  RoundOk s p last (proposing b o e R) = Proposing s b o e R
+  RoundOk s p last (proposing b o e R) = Proposing s p b o e R
 
-  -- v is in order as the host x (wait: A; promised: B; accepted: F; round: D, H, I; named: J)
+  -- x names n
+  pub record Naming (s : World 𝒞) (x : ℕ) (n : Holder) : Type 0 where
+    pub holding : Holding s (n .ballot) (n .owner) (n .end)
+    pub ahead : s .clock x < n .end
+    pub unreleased : n .owner ≡ x → Released s (n .ballot) x → ⊥
+
+  -- v is in order as the host x (wait: A; promised: B; accepted: F; round: D, H, I, K; named: J,
+  -- K). K is `unreleased`: what a host has a round for, and what it names itself by, is not below a
+  -- release of its own.
   pub record HostOk (s : World 𝒞) (x : ℕ) (v : Host 𝒞) : Type 0 where
     pub wait-short : v .wait ≤ s .clock x + T + S
     pub promised-old : (b : ℕ) → b < v .promised → tick b ≤ s .clock x + S
@@ -134,8 +158,7 @@ module _ {𝒞 : Setup} where
     pub accepted-kept : (b o e : ℕ) → Voted s x b → Proposed s b o e → Live s b o e → v .wait < e
         → b < top (v .accepted)
     pub round-ok : RoundOk s x (v .last) (v .round)
-    pub named-ok : (n : Holder) → v .named ≡ some n → Holding s (n .ballot) (n .owner) (n .end)
-        × (s .clock x < n .end)
+    pub named-ok : (n : Holder) → v .named ≡ some n → Naming s x n
 
   -- ---- the invariant
 

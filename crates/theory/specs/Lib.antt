@@ -2,3 +2,4 @@
 pub mod Ballots
 pub mod Model
 pub mod Invariant
+pub mod Agreement

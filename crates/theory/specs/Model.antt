@@ -9,7 +9,7 @@
 -- is one message. Assumes nothing.
 use Prim.Native.Nat.{ℕ, _+_, _≤_, _<_}
 use mathlib.Core.Path.{_≡_}
-use mathlib.Core.Logic.{_⊎_}
+use mathlib.Core.Logic.{_⊎_, _≢_}
 use mathlib.Core.Option.{Option, none, some}
 use mathlib.Core.List.{List, [], List·Memᴰ}
 use Rattle.theory.specs.Ballots.{tick, proposer, Lease, Holder, top, changed, with-one}
@@ -32,6 +32,7 @@ pub data Message : Type 0 where
   proposeRequest : ℕ → ℕ → ℕ → Message  -- ballot, owner, keepers' end
   proposeResponse : ℕ → ℕ → Message  -- sender, ballot
   learn : ℕ → ℕ → ℕ → Message  -- ballot, owner, holder's end
+  release : ℕ → Message  -- ballot; its proposer is the host that lets go
 
 -- ---- a host, and the world: all clocks, all hosts, all messages
 
@@ -67,9 +68,28 @@ Expired a now = a .end ≤ now
 abbrev pub AgedLease : ℕ → Option Lease → Option Lease → Type 0
 AgedLease c A A' = (A' ≡ A) ⊎ ((A' ≡ none) × (a : Lease) × (A ≡ some a) × Expired a c)
 
+-- a release with the ballot r frees what has the ballot b and the owner o: what is its proposer's,
+-- if its ballot is lower
+abbrev pub Frees : ℕ → ℕ → ℕ → Type 0
+Frees r b o = (o ≡ proposer r) × (b < r)
+
+-- what is left of an accepted lease A, or of a named holder N, after a release with the ballot r:
+-- all of it, or nothing if r frees it
+abbrev pub FreedLease : ℕ → Option Lease → Option Lease → Type 0
+FreedLease r A A' = (A' ≡ A)
+    ⊎ ((A' ≡ none) × (a : Lease) × (A ≡ some a) × Frees r (a .ballot) (a .owner))
+
+abbrev pub FreedHolder : ℕ → Option Holder → Option Holder → Type 0
+FreedHolder r N N' = (N' ≡ N)
+    ⊎ ((N' ≡ none) × (n : Holder) × (N ≡ some n) × Frees r (n .ballot) (n .owner))
+
 -- f is the holder's end of a lease with the keepers' end e
 abbrev pub HoldersEnd : ℕ → ℕ → ℕ → Type 0
 HoldersEnd S e f = e ≡ f + S
+
+-- the host h takes a learn of the owner o: it is another host
+abbrev pub Learnable : ℕ → ℕ → Type 0
+Learnable h o = o ≢ h
 
 -- K' is at least as high as the kept lease K and as a reply's lease A
 pub record Higher (K A K' : Option Lease) : Type 0 where
@@ -137,16 +157,27 @@ module _ {𝒞 : Setup} where
         named = v .named;
       }
 
-  abbrev pub withHolder : Host 𝒞 → Holder → Host 𝒞
-  withHolder v n =
+  abbrev pub withNamed : Host 𝒞 → Option Holder → Host 𝒞
+  withNamed v n =
       record {
         wait = v .wait;
         promised = v .promised;
         last = v .last;
         accepted = v .accepted;
         round = v .round;
-        named = some n;
+        named = n;
       }
+
+  abbrev pub withHolder : Host 𝒞 → Holder → Host 𝒞
+  withHolder v n = withNamed v (some n)
+
+  -- letting go: the host has no round and names nobody
+  abbrev pub lettingGo : Host 𝒞 → ℕ → Host 𝒞
+  lettingGo v l = withNamed (withAsking v l idle) none
+
+  -- obeying a release promises its ballot
+  abbrev pub obeying : Host 𝒞 → ℕ → Option Lease → Option Holder → Host 𝒞
+  obeying v b A N = withNamed (withVote v (b + 1) A) N
 
   -- accepting a proposal promises its ballot
   abbrev pub accepting : Host 𝒞 → ℕ → ℕ → ℕ → Host 𝒞
@@ -167,6 +198,10 @@ module _ {𝒞 : Setup} where
   -- the ballot b is not below the promise
   abbrev pub NotBelow : Host 𝒞 → ℕ → Type 0
   NotBelow v b = v .promised ≤ b + 1
+
+  -- the host names a holder, and o is its owner
+  abbrev pub Names : Host 𝒞 → ℕ → Type 0
+  Names v o = (n : Holder) × (v .named ≡ some n) × (n .owner ≡ o)
 
   -- ---- steps
 
@@ -204,9 +239,21 @@ module _ {𝒞 : Setup} where
     tell :
         (b o e f : ℕ) (R : Hosts) → v .round ≡ proposing b o e R → Majority R → HoldersEnd S e f
         → Act c v l h v (some (learn b o f))
+    -- a host names by its own majority whoever owns the lease, itself too ..
+    win :
+        (b o e f : ℕ) (R : Hosts) → v .round ≡ proposing b o e R → Majority R → HoldersEnd S e f
+        → c < f → Act c v l h (withHolder v (record { ballot = b; owner = o; end = f })) none
+    -- .. and by a learn another host only
     name :
-        (b o f : ℕ) → List·Memᴰ (learn b o f) l → c < f
+        (b o f : ℕ) → List·Memᴰ (learn b o f) l → c < f → Learnable h o
         → Act c v l h (withHolder v (record { ballot = b; owner = o; end = f })) none
+    letGo :
+        (b : ℕ) → tick b ≡ nextTick v c → proposer b ≡ h → v .wait ≤ c → Names v h → NewTick v c
+        → Act c v l h (lettingGo v (nextTick v c + 1)) (some (release b))
+    obey :
+        (b : ℕ) (A : Option Lease) (N : Option Holder) → List·Memᴰ (release b) l → v .wait ≤ c
+        → NotBelow v b → FreedLease b (v .accepted) A → FreedHolder b (v .named) N
+        → Act c v l h (obeying v b A N) none
 
   -- the world after such a step
   abbrev pub put : World 𝒞 → ℕ → Host 𝒞 → Option Message → World 𝒞

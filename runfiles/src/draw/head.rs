@@ -112,8 +112,11 @@ fn rows(moment: &Moment, flights: &[Flight]) -> (String, String) {
     }
 }
 
-/// What a delivery came to, in a word or two.
+/// What a release or a delivery came to, in a word or two.
 fn came_to(moment: &Moment, flights: &[Flight]) -> Option<String> {
+    if let Some(Event::Release { .. }) = moment.event {
+        return Some("lets go".into());
+    }
     let word = short::case(moment.case?);
     let receiver = moment.host(flights)?;
     match moment.hosts[usize::from(receiver)].named {

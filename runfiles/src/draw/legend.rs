@@ -71,14 +71,18 @@ fn spans(canvas: &mut Canvas, top: usize) {
         ));
         canvas.words(SPANS + 50, y + 4, words);
     }
-    let y = top + 21 + LINE * SPAN_KINDS.len();
-    canvas.add(&format!(
-        "<rect class=\"restart\" x=\"{}\" y=\"{}\" width=\"5\" height=\"18\"/>\n",
-        SPANS + 17,
-        y - 9
-    ));
-    canvas.words(SPANS + 50, y + 4, "restarts");
-    canvas.words(SPANS, y + 4 + LINE, "small numbers: a clock, where it moves");
+    let mut y = top + 21 + LINE * SPAN_KINDS.len();
+    for (class, words) in [("restart", "restarts"), ("release", "lets go of its lease")] {
+        canvas.add(&format!(
+            "<rect class=\"{}\" x=\"{}\" y=\"{}\" width=\"5\" height=\"18\"/>\n",
+            class,
+            SPANS + 17,
+            y - 9
+        ));
+        canvas.words(SPANS + 50, y + 4, words);
+        y += LINE;
+    }
+    canvas.words(SPANS, y + 4, "small numbers: a clock, where it moves");
 }
 
 fn messages(canvas: &mut Canvas, top: usize) {

@@ -1,5 +1,6 @@
 //! What stands on the lanes beside spans and arrows: clocks where they move, a dot where a host
-//! acts, a bar where it restarts, and a refusal's number where it was refused.
+//! acts, a full bar where it restarts and a hollow one where it lets go, and a refusal's number
+//! where it was refused.
 
 use model::cell::Event;
 use model::refusal::DONE;
@@ -37,12 +38,8 @@ fn mark(canvas: &mut Canvas, moment: &Moment, layout: &Layout, x: usize, host: u
         return refusal(canvas, x, layout.line(host) + 4, moment.answer);
     }
     match moment.event {
-        Some(Event::Restart { .. }) => canvas.add(&format!(
-            "<rect class=\"restart\" x=\"{}\" y=\"{}\" width=\"5\" height=\"{}\"/>\n",
-            x - 2,
-            layout.lane(host) + 4,
-            LANE - 8
-        )),
+        Some(Event::Restart { .. }) => bar(canvas, "restart", layout, x, host),
+        Some(Event::Release { .. }) => bar(canvas, "release", layout, x, host),
         Some(Event::AdvanceOne { .. }) => {}
         _ => canvas.add(&format!(
             "<circle class=\"dot\" cx=\"{}\" cy=\"{}\" r=\"2.5\"/>\n",
@@ -50,4 +47,14 @@ fn mark(canvas: &mut Canvas, moment: &Moment, layout: &Layout, x: usize, host: u
             layout.line(host)
         )),
     }
+}
+
+fn bar(canvas: &mut Canvas, class: &str, layout: &Layout, x: usize, host: u8) {
+    canvas.add(&format!(
+        "<rect class=\"{}\" x=\"{}\" y=\"{}\" width=\"5\" height=\"{}\"/>\n",
+        class,
+        x - 2,
+        layout.lane(host) + 4,
+        LANE - 8
+    ));
 }

@@ -3,15 +3,16 @@
 use model::host::Case;
 use model::message::{Body, Message};
 
-/// The kinds of messages, as document 01's table of frames has them: in a few letters, where `?`
-/// asks and `!` answers, and whole.
-pub const KINDS: [(&str, &str); 6] = [
+/// The kinds of messages, as document 01's table of frames and document 02 have them: in a few
+/// letters, where `?` asks and `!` answers, and whole.
+pub const KINDS: [(&str, &str); 7] = [
     ("prep?", "prepare request"),
     ("prep!", "prepare response, empty"),
     ("prep!+", "prepare response, lease"),
     ("prop?", "propose request"),
     ("prop!", "propose response"),
     ("learn", ""),
+    ("rel", "release request"),
 ];
 
 /// The place of a kind among them.
@@ -23,6 +24,7 @@ pub fn kind(body: &Body) -> usize {
         Body::ProposeRequest { .. } => 3,
         Body::ProposeResponse => 4,
         Body::Learn { .. } => 5,
+        Body::ReleaseRequest => 6,
     }
 }
 
@@ -37,9 +39,9 @@ pub fn case(case: Case) -> &'static str {
     match case {
         Case::Waits => "waits",
         Case::PrepareNotAbove => "not above",
-        Case::PromisedEmpty | Case::PromisedLease => "promises",
+        Case::PromisedEmpty | Case::PromisedLease | Case::ReleasePromised => "promises",
         Case::ResponseToNoRound | Case::AnswerToNoRound => "no round",
-        Case::ResponseRepeated | Case::AnswerRepeated => "had it",
+        Case::ResponseRepeated | Case::AnswerRepeated | Case::ReleaseAgain => "had it",
         Case::ResponseExpired | Case::ProposeExpired | Case::LearnExpired => "expired",
         Case::ResponseCounted | Case::AnswerCounted => "counts",
         Case::ProposesOwn
@@ -48,10 +50,12 @@ pub fn case(case: Case) -> &'static str {
         | Case::ProposesOwnAsKept
         | Case::ProposesKept => "proposes",
         Case::AskedTooLong | Case::ChosenTooLate => "too late",
-        Case::ProposeBelow => "below",
+        Case::ProposeBelow | Case::ReleaseBelow => "below",
         Case::Accepted => "accepts",
         Case::ChosenNamed | Case::LearnNamed => "names",
         Case::ChosenNotHigher | Case::LearnNotHigher => "not higher",
+        Case::LearnOwn => "of itself",
+        Case::ReleaseDropped => "drops",
     }
 }
 
@@ -68,7 +72,10 @@ pub fn did_nothing(case: Case) -> bool {
             | Case::ProposeBelow
             | Case::AnswerToNoRound
             | Case::AnswerRepeated
+            | Case::LearnOwn
             | Case::LearnExpired
             | Case::LearnNotHigher
+            | Case::ReleaseBelow
+            | Case::ReleaseAgain
     )
 }

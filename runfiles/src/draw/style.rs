@@ -54,6 +54,7 @@ const SHEET: &str = "\
 .run .k3{stroke-width:2.6}
 .run .k4{stroke-width:2.6;stroke-dasharray:6 3}
 .run .k5{stroke-width:2.2;stroke-dasharray:1.5 3}
+.run .k6{stroke-width:2.2;stroke-dasharray:12 3 1.5 3 1.5 3}
 .run .lost{marker-end:url(#lost)}
 .run .open{marker-end:url(#open)}
 .run .copy{marker-start:url(#copy)}
@@ -63,6 +64,7 @@ const SHEET: &str = "\
 .run .e{text-anchor:end}
 .run .dot{fill:#111}
 .run .restart{fill:#111}
+.run .release{fill:#fff;stroke:#111;stroke-width:1.5}
 .run .no rect{fill:#111}
 @media print{:root.run{width:100%;height:auto}}
 .run .no text{fill:#fff;font-size:10px;font-weight:bold;text-anchor:middle}

@@ -27,6 +27,9 @@ change-of-spec =
     (λ c. search needs)
     (λ c κs. search needs)
     (λ c κs. search needs)
+    (λ c. search needs)
+    (λ c κs. search needs)
+    (λ c κs. search needs)
     (λ c.
     rw (
       c .change-by .ensures,
@@ -49,4 +52,10 @@ change-of-spec =
       c .change-by4 .ensures,
       c .before .restart .ensures,
       c .before .before .enum-told5 .given .1,
+    ))
+    (λ c.
+    rw (
+      c .change-by5 .ensures,
+      c .before .release .ensures,
+      c .before .before .enum-told6 .given .1,
     )))

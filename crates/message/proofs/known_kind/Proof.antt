@@ -1,4 +1,4 @@
--- `known_kind`: a number from the first kind, 1, to the last, 6.
+-- `known_kind`: a number from the first kind, 1, to the last, 7.
 use mathlib.Core.Path.{refl}
 use Rattle.message.specs.Message.{knownKind}
 use Rattle.message.proofs.known_kind.Statement.{statement}

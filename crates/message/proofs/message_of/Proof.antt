@@ -1,4 +1,4 @@
--- `message_of`: kinds 1 to 5 each give their message, and any other number a learn message.
+-- `message_of`: kinds 1 to 6 each give their message, and any other number a release request.
 use borrow.Author.Tests.{ne-eqb}
 use Rattle.message.specs.Message.{messageOf}
 use borrow.Author.Needs.{needs}
@@ -16,9 +16,11 @@ message-of-spec =
     (λ c. simp (c .before .before .before .before .head-of .ensures, c .match .keys3))
     (λ c. simp (c .before .before .before .before .head-of .ensures, c .match .keys4))
     (λ c. simp (c .before .before .before .before .head-of .ensures, c .match .keys5))
+    (λ c. simp (c .before .before .before .before .head-of .ensures, c .match .keys6))
     (λ c.
     simp (
       c .before .before .before .before .head-of .ensures,
+      ne-eqb _ _ (c .match .rest .0 .0 .0 .0 .0 .1),
       ne-eqb _ _ (c .match .rest .0 .0 .0 .0 .1),
       ne-eqb _ _ (c .match .rest .0 .0 .0 .1),
       ne-eqb _ _ (c .match .rest .0 .0 .1),

@@ -1,4 +1,4 @@
--- `numbers_of` gives the numbers of each of the six messages, and 0 for those that it lacks.
+-- `numbers_of` gives the numbers of each of the seven messages, and 0 for those that it lacks.
 use mathlib.Core.Path.{sym, ap, _∙_}
 use Rattle.message.specs.Message.{numbersOf}
 use borrow.Author.Needs.{needs}
@@ -22,9 +22,12 @@ numbers-of-spec =
     (λ c κs. search needs)
     (λ c. search needs)
     (λ c κs. search needs)
+    (λ c. search needs)
+    (λ c κs. search needs)
     (λ c. c .numbers-with .ensures ∙ sym (ap numbersOf (c .before .before .m .given .1)))
     (λ c. c .numbers-with2 .ensures ∙ sym (ap numbersOf (c .before .before .m2 .given .1)))
     (λ c. c .numbers-with3 .ensures ∙ sym (ap numbersOf (c .before .before .before .m3 .given .1)))
     (λ c. c .numbers-with4 .ensures ∙ sym (ap numbersOf (c .before .before .m4 .given .1)))
     (λ c. c .numbers-with5 .ensures ∙ sym (ap numbersOf (c .before .before .m5 .given .1)))
-    (λ c. c .numbers-with6 .ensures ∙ sym (ap numbersOf (c .before .before .m6 .given .1))))
+    (λ c. c .numbers-with6 .ensures ∙ sym (ap numbersOf (c .before .before .m6 .given .1)))
+    (λ c. c .numbers-with7 .ensures ∙ sym (ap numbersOf (c .before .before .m7 .given .1))))

@@ -15,14 +15,15 @@ use Rattle.record.proofs.event_at.Tie as tie
 there : (c : tie.Start) → c .args .at + 4 < length (c .args .run .now)
 there c = omega (arith, c .pre, length-least (c .args .kind))
 
-restart : tie.Need-returns-7
+release : tie.Need-returns-8
 unfolding eventWith
-restart c =
+release c =
     let other = c .before .match .rest in
-    let n = ne-eqb _ _ (other .0 .0 .0 .0 .0 .1) in
+    let n = ne-eqb _ _ (other .0 .0 .0 .0 .0 .0 .1) in
     rw (
-      c .byte6 .ensures,
+      c .byte7 .ensures,
       n,
+      ne-eqb _ _ (other .0 .0 .0 .0 .0 .1),
       ne-eqb _ _ (other .0 .0 .0 .0 .1),
       ne-eqb _ _ (other .0 .0 .0 .1),
       ne-eqb _ _ (other .0 .0 .1),
@@ -58,6 +59,8 @@ event-at-spec =
     (λ c κs. there (c .before .before))
     (λ c. search needs)
     (λ c κs. there (c .before .before))
+    (λ c. search needs)
+    (λ c κs. there (c .before .before))
     (λ c. rw (c .get .ensures .0, c .before .match .keys1))
     (λ c.
     let d = c .before in
@@ -68,4 +71,5 @@ event-at-spec =
     (λ c. rw (c .byte3 .ensures, c .before .match .keys4))
     (λ c. rw (c .byte4 .ensures, c .before .match .keys5))
     (λ c. rw (c .byte5 .ensures, c .before .match .keys6))
-    restart)
+    (λ c. rw (c .byte6 .ensures, c .before .match .keys7))
+    release)

@@ -1,4 +1,4 @@
--- `is_allowed`: the settings' kind in the first record, and the seven kinds of events after it.
+-- `is_allowed`: the settings' kind in the first record, and the eight kinds of events after it.
 use Rattle.record.specs.Record.{isAllowed}
 use Rattle.record.proofs.is_allowed.Statement.{statement}
 use Rattle.record.proofs.is_allowed.Tie as tie

@@ -1,4 +1,4 @@
--- `kind_of` gives the kind of each of the seven events.
+-- `kind_of` gives the kind of each of the eight events.
 use Rattle.record.specs.Record.{kindOf}
 use borrow.Author.Needs.{needs}
 use Rattle.record.proofs.kind_of.Statement.{statement}
@@ -16,10 +16,12 @@ kind-of-spec =
     (λ c. search needs)
     (λ c. search needs)
     (λ c. search needs)
+    (λ c. search needs)
     (λ c. rw (c .enum-told .given .1))
     (λ c. rw (c .enum-told2 .given .1))
     (λ c. rw (c .enum-told3 .given .1))
     (λ c. rw (c .enum-told4 .given .1))
     (λ c. rw (c .enum-told5 .given .1))
     (λ c. rw (c .enum-told6 .given .1))
-    (λ c. rw (c .enum-told7 .given .1)))
+    (λ c. rw (c .enum-told7 .given .1))
+    (λ c. rw (c .enum-told8 .given .1)))
