@@ -240,37 +240,37 @@ impl Releases {
         self.driver.let_go(of, [other]);
     }
 
-    /// A third host has accepted another's lease, which no majority has, and is told of the release
-    /// of the lease that a majority had.
-    fn beside_anothers_lease(&mut self) {
-        let [of, other, third] = self.parts;
-        let without = self.all_but(third);
-        self.driver.start(other, self.duration);
-        self.driver.request(other, Phase::Prepare, 0..self.n());
-        self.driver.respond(other, Phase::Prepare, 0..self.n());
-        self.driver.request(other, Phase::Propose, [third]);
+    /// A lease that a third host has no part in is taken and let go, and the third is told of that.
+    fn let_go_beside_the_third(&mut self) {
+        let [of, _, third] = self.parts;
         self.driver.advance_all(1);
-        self.driver.round(of, self.duration, without);
+        self.driver.round(of, self.duration, self.all_but(third));
         self.driver.advance_all(1);
         self.driver.release(of);
         self.driver.let_go(of, [third]);
     }
 
+    /// A third host has accepted another's lease, which no majority has, and is told of the release
+    /// of the lease that a majority had.
+    fn beside_anothers_lease(&mut self) {
+        let [_, other, third] = self.parts;
+        self.driver.start(other, self.duration);
+        self.driver.request(other, Phase::Prepare, 0..self.n());
+        self.driver.respond(other, Phase::Prepare, 0..self.n());
+        self.driver.request(other, Phase::Propose, [third]);
+        self.let_go_beside_the_third();
+    }
+
     /// A third host still names one that has let go, of which it was not told, when it is told of
     /// the next release.
     fn beside_anothers_holder(&mut self) {
-        let [of, other, third] = self.parts;
-        let without = self.all_but(third);
+        let [_, other, third] = self.parts;
         self.driver.round(other, self.duration, 0..self.n());
         self.driver.learn(other, [third]);
         self.driver.advance_all(1);
         self.driver.release(other);
-        self.driver.let_go(other, without.clone());
-        self.driver.advance_all(1);
-        self.driver.round(of, self.duration, without);
-        self.driver.advance_all(1);
-        self.driver.release(of);
-        self.driver.let_go(of, [third]);
+        self.driver.let_go(other, self.all_but(third));
+        self.let_go_beside_the_third();
     }
 
     /// Two others have found the lease and proposed it: the first counts its votes when it has

@@ -116,7 +116,9 @@ impl Account<'_> {
     }
 
     fn started(&self, host: u8, duration: u32) -> String {
-        let asks = format!("asks with ballot {} for {} ticks", self.last_ballot(host), duration);
+        let ticks = if duration == 1 { "tick" } else { "ticks" };
+        let ballot = self.last_ballot(host);
+        let asks = format!("asks with ballot {} for {} {}", ballot, duration, ticks);
         self.sent_to_all(host, &asks, "prepare requests")
     }
 

@@ -32,6 +32,11 @@ use Rattle.rules.specs.Rules.{valueToPropose, isForbidden, mayAccept, af
 use Rattle.rules.specs.Rules.{namingBound, isNamable, mayLearn, namedBy, namesItself}
 use Rattle.rules.specs.Rules.{takesRelease, isFreed, freedLease, freedHolder, afterRelease}
 
+-- the first test fails and the second holds
+second : (a b : Bool) → cond a false b ≡ true → (a ≡ false) × (b ≡ true)
+second true b e = true-false (sym e)
+second false b e = (refl, e)
+
 -- ---- waiting, time and restart
 
 -- the wait outlasts every lease proposed before it: its ballot's tick is at most S above the clock,
@@ -143,12 +148,7 @@ higher-kept (Accepted.One a) (Accepted.One b) =
 pub acts-majority : (n before after : ℕ) → actsOn n before after ≡ true
     → (isMajority n after ≡ true) × (isMajority n before ≡ false)
 unfolding actsOn
-acts-majority n before after e = go (isMajority n before) refl e
-  where
-    go : (t : Bool) → isMajority n before ≡ t → cond t false (isMajority n after) ≡ true
-        → (isMajority n after ≡ true) × (isMajority n before ≡ false)
-    go true p q = true-false (sym q)
-    go false p q = (q, p)
+acts-majority n before after e = let p = second _ _ e in (p .1, p .0)
 
 -- where there was none before, a round acts exactly on a majority
 pub acts-first : (n before after : ℕ) → isMajority n before ≡ false
@@ -185,23 +185,14 @@ to-propose number clock own (Accepted.One l) =
 pub accept-live : (p : Promised) (clock : ℕ) (l : Lease) → mayAccept p clock l ≡ true
     → clock < l .end .0
 unfolding mayAccept
-accept-live p clock l e = go (leb (l .end .0) clock) refl e
-  where
-    go : (t : Bool) → leb (l .end .0) clock ≡ t
-        → cond t false (not (isForbidden p (l .ballot))) ≡ true → clock < l .end .0
-    go true p q = true-false (sym q)
-    go false p q = leb-false (l .end .0) clock p
+accept-live p clock l e = leb-false (l .end .0) clock (second _ _ e .0)
 
 -- whatever is forbidden is not accepted
 accept-allowed : (p : Promised) (clock : ℕ) (l : Lease) → mayAccept p clock l ≡ true
     → isForbidden p (l .ballot) ≡ false
 unfolding mayAccept
-accept-allowed p clock l e = go (leb (l .end .0) clock) e
-  where
-    go : (t : Bool) → cond t false (not (isForbidden p (l .ballot))) ≡ true
-        → isForbidden p (l .ballot) ≡ false
-    go true q = true-false (sym q)
-    go false q = not-true (isForbidden p (l .ballot)) q
+accept-allowed p clock l e =
+    not-true (isForbidden p (l .ballot)) (second (leb (l .end .0) clock) _ e .1)
 
 -- what is not forbidden is not below the promise
 allowed-not-below : (p b : Ballot) → isForbidden (Promised.To p) b ≡ false → isAbove p b ≡ false
@@ -252,16 +243,12 @@ pub record Learnt (number clock : ℕ) (m : LearnedLease) : Type 0 where
 pub learnt : (number clock : ℕ) (m : LearnedLease) → mayLearn number clock m ≡ true
     → Learnt number clock m
 unfolding mayLearn
-learnt number clock m e = go (eqb (m .owner) number) refl e
-  where
-    go : (t : Bool) → eqb (m .owner) number ≡ t → cond t false (not (leb (m .end .0) clock)) ≡ true
-        → Learnt number clock m
-    go true p q = true-false (sym q)
-    go false p q =
-        record {
-          another = eqb-false (m .owner) number p;
-          live = leb-false (m .end .0) clock (not-true (leb (m .end .0) clock) q);
-        }
+learnt number clock m e =
+    let p = second (eqb (m .owner) number) _ e in
+    record {
+      another = eqb-false (m .owner) number (p .0);
+      live = leb-false (m .end .0) clock (not-true (leb (m .end .0) clock) (p .1));
+    }
 
 -- ---- release and release request
 
@@ -275,7 +262,7 @@ names-itself number (Named.One h) e = (h, refl, eqb-true (h .owner) number e)
 -- a release at the promise is taken
 pub release-at-promise : (b : Ballot) → takesRelease (Promised.To b) b ≡ true
 unfolding takesRelease isForbidden
-release-at-promise b = rw (above-itself b)
+release-at-promise b = let e = above-itself b in cc
 
 -- a release that is taken is not below the promise
 pub release-not-below : (p b : Ballot) → takesRelease (Promised.To p) b ≡ true
