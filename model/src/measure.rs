@@ -65,6 +65,32 @@ fn eighty_slots() -> Option<Driver> {
     }))
 }
 
+/// A cell of nine hosts with so many slots in use, or none.
+fn in_use(slots: u8) -> Option<Driver> {
+    let mut driver = opened(9)?;
+    if slots > 0 {
+        driver.start(0, 50);
+    }
+    while driver.cell.slots.taken() < u32::from(slots) {
+        driver.apply(Event::Repeat { slot: 0 });
+    }
+    Some(driver)
+}
+
+/// Over and over a host sends to all nine, and their messages are lost.
+fn nine_messages(slots: u8) -> Option<Driver> {
+    Some(filled(in_use(slots)?, |place| match place % 11 {
+        0 => Event::AdvanceAll { ticks: 1 },
+        1 => Event::Start { host: 1, duration: 50 },
+        sent => Event::Lose { slot: slots + sent as u8 - 2 },
+    }))
+}
+
+/// Starts of a host that would send to all nine, with slots for fewer.
+fn no_room(slots: u8) -> Option<Driver> {
+    Some(filled(in_use(slots)?, |_| Event::Start { host: 1, duration: 50 }))
+}
+
 /// The hosts start in turn, a tick apart, and all messages of each round are delivered.
 fn whole_rounds(n: u8) -> Option<Driver> {
     let mut driver = opened(n)?;
@@ -165,6 +191,10 @@ pub fn run(bench: PathBuf, folder: PathBuf) -> io::Result<bool> {
     measurement.row("whole rounds, 3 hosts", whole_rounds(3))?;
     measurement.row("whole rounds, 9 hosts", whole_rounds(9))?;
     measurement.row("80 slots in use", eighty_slots())?;
+    measurement.row("nine messages, no slot in use", nine_messages(0))?;
+    measurement.row("nine messages, 87 slots in use", nine_messages(87))?;
+    measurement.row("13, 88 slots in use", no_room(88))?;
+    measurement.row("13, every slot in use", no_room(96))?;
     measurement.row("all refused", all_refused())?;
     measurement.row("advances, 9 hosts", advances())?;
     Ok(true)

@@ -2,11 +2,12 @@
 -- the shape of the code. No claim rests on it: proofs/Acts ties it to the tables of
 -- cell/specs/Events. Assumes nothing.
 use Prim.Native.Nat.{ℕ, zero, suc, _+_, _-_}
-use mathlib.Core.Bool.{Bool, true, cond, not}
-use mathlib.Core.List.{[], _∷_}
+use mathlib.Core.Bool.{cond, _&&_, not}
+use mathlib.Core.List.{List, [], _∷_}
 use lib.Dec.{ltb, leb, eqb}
-use Rattle.base.specs.Refusals.{done, unless, firstOf, refusedHost, refusedSlot, refusedFull}
-use Rattle.base.specs.Refusals.{refusedSpread, refusedClock}
+use lib.ListN.{getD, set}
+use Rattle.base.specs.Refusals.{done, unless, firstOf, refusedHost, refusedSlot, refusedSpread}
+use Rattle.base.specs.Refusals.{refusedClock}
 use Rattle.quorum.specs.Sets.{isIn}
 use Rattle.message.specs.Message.{lastTick}
 use Rattle.state.specs.declared.Settings.{Settings}
@@ -16,15 +17,15 @@ use Rattle.host.specs.declared.Stepped.{Stepped}
 use Rattle.host.specs.Parts.{Handed}
 use Rattle.host.specs.Steps.{refusedWith, quietWith, stepWith, advanceOf, restartOf, startOf}
 use Rattle.host.specs.Steps.{releaseOf, onDelivery}
+use Rattle.places.specs.Places.{blankHost}
 use Rattle.places.specs.Parts.{clockWith}
 use Rattle.slots.specs.declared.Slot.{Slot}
 use Rattle.slots.specs.declared.Content.{Content}
-use Rattle.slots.specs.Slots.{slotCount, isEmpty}
+use Rattle.slots.specs.Slots.{slotCount, emptySlot, isEmpty}
 use Rattle.slots.specs.Parts.{slotAfter}
 use Rattle.cell.specs.declared.Event.{Event}
 use Rattle.cell.specs.declared.Event.the-variants.{AdvanceAll, AdvanceOne, Start, Deliver, Lose}
 use Rattle.cell.specs.declared.Event.the-variants.{Repeat, Restart, Release}
-use Rattle.cell.specs.Events.{messagesIn}
 use Rattle.acts.specs.declared.Act.{Act}
 use Rattle.change.specs.Parts.{ticksOf}
 
@@ -93,33 +94,9 @@ hostAct s (Repeat i) h = quietWith h
 hostAct s (Restart k) h = restartOf s h
 hostAct s (Release k) h = releaseOf s h
 
-unfoldable pub nearBy : Settings → Event → ℕ → ℕ → Bool
-nearBy s (AdvanceAll d) low high = true
-nearBy s (AdvanceOne h d) low high = leb (high - low) (s .spread)
-nearBy s (Start h d) low high = true
-nearBy s (Deliver i) low high = true
-nearBy s (Lose i) low high = true
-nearBy s (Repeat i) low high = true
-nearBy s (Restart h) low high = true
-nearBy s (Release h) low high = true
-
--- 13, with so many empty slots
-abbrev pub roomRefusal : Stepped → ℕ → ℕ
-roomRefusal step empty = unless (leb (messagesIn (step .sent) (step .receivers)) empty) refusedFull
-
-unfoldable pub hostAnswer : Settings → Event → ℕ → Stepped → ℕ → ℕ → ℕ → ℕ
-hostAnswer s e number step low high empty =
-    firstOf (
-    unless (ltb number (s .n)) refusedHost
-    ∷ step .answer
-    ∷ unless (nearBy s e low high) refusedSpread
-    ∷ roomRefusal step empty
-    ∷ []
-    )
-
-unfoldable pub hostStep : Settings → Event → ℕ → Host → ℕ → ℕ → ℕ → Stepped
-hostStep s e number h low high empty =
-    stepWith (hostAnswer s e number (hostAct s e h) low high empty) h (hostAct s e h)
+-- 5, and what the host refuses it by
+unfoldable pub hostStep : Settings → Event → ℕ → Host → Stepped
+hostStep s e number h = cond (ltb number (s .n)) (hostAct s e h) (refusedWith refusedHost h)
 
 -- an advance of one host sends nothing
 unfoldable pub advanceStep : Settings → Event → ℕ → Host → ℕ → ℕ → Stepped
@@ -149,30 +126,27 @@ unfoldable pub deliverAct : Settings → Host → Content → Stepped
 deliverAct s h Content.Empty = refusedWith refusedSlot h
 deliverAct s h (Content.One m) = onDelivery s h m
 
--- the answer of a step, or 13 where so many empty slots are too few for what it sends
-unfoldable pub answerWithRoom : ℕ → Sent → ℕ → ℕ → ℕ
-answerWithRoom answer sent receivers empty =
-    firstOf (answer ∷ unless (leb (messagesIn sent receivers) empty) refusedFull ∷ [])
-
-unfoldable pub loseAnswer : Content → ℕ
-loseAnswer t = unless (not (isEmpty t)) refusedSlot
-
-unfoldable pub repeatAnswer : Content → ℕ → ℕ
-repeatAnswer t empty =
-    firstOf (unless (not (isEmpty t)) refusedSlot ∷ unless (leb 1 empty) refusedFull ∷ [])
+-- 12, of a loss or a repeat
+unfoldable pub slotAnswer : Content → ℕ
+slotAnswer t = unless (not (isEmpty t)) refusedSlot
 
 unfoldable pub sentIn : Content → Sent
 sentIn Content.Empty = Sent.Nothing
 sentIn (Content.One m) = Sent.One m
 
-unfoldable pub repeatSent : ℕ → Content → Sent
-repeatSent answer t = cond (eqb answer done) (sentIn t) Sent.Nothing
-
 abbrev pub slotWithAnswer : ℕ → Slot → Slot
 slotWithAnswer answer held = slotAfter (eqb answer done) held
 
-unfoldable pub emptyWith : ℕ → ℕ → ℕ
-emptyWith answer empty = cond (eqb answer done) (suc empty) empty
+-- ---- what waits for the walk that places
+
+-- the host at place who, as its step leaves it, where the event is done; n stands for no host
+abbrev pub committed : ℕ → ℕ → ℕ → List Host → List Host → List Host
+committed n answer who pending hosts =
+    cond (eqb answer done && ltb who n) (set hosts who (getD pending who blankHost)) hosts
+
+-- a slot that was freed holds again what it held before; 96 stands for no slot
+abbrev pub putBack : ℕ → List Slot → List Slot → List Slot
+putBack i before ss = cond (ltb i slotCount) (set ss i (getD before i emptySlot)) ss
 
 -- ---- the receivers of what is placed
 

@@ -2,19 +2,17 @@
 // itself: each function is handed one host or one slot, and gives what the loop then stores.
 ghost use mathlib.Core.Path.{_≡_};
 ghost use mathlib.Core.Bool.{true};
-ghost use Prim.Native.Nat.{_<_, _≤_, _+_, _-_, _^_};
+ghost use Prim.Native.Nat.{_<_, _≤_, _+_};
 ghost use Rattle.message.specs.Message.{lastTick, addressedTo};
 ghost use Rattle.host.specs.Steps.{hostOk, advancedHost};
 ghost use Rattle.slots.specs.Slots.{slotWith};
 ghost use Rattle.change.specs.Parts.{ticksOf};
 ghost use Rattle.acts.specs.Parts.{actOf, watchedBy, clockAfter, allAnswer, movingWith};
-ghost use Rattle.acts.specs.Parts.{placeOf, hostAct, nearBy, hostStep, slotIndex, contentIn};
-ghost use Rattle.acts.specs.Parts.{HandedIn, deliverAct, answerWithRoom, loseAnswer};
-ghost use Rattle.acts.specs.Parts.{repeatAnswer, sentIn, repeatSent, slotWithAnswer};
-ghost use Rattle.acts.specs.Parts.{emptyWith, nextIn, advanceStep};
+ghost use Rattle.acts.specs.Parts.{placeOf, hostAct, hostStep, advanceStep, slotIndex};
+ghost use Rattle.acts.specs.Parts.{contentIn, HandedIn, deliverAct, slotAnswer, sentIn};
+ghost use Rattle.acts.specs.Parts.{slotWithAnswer, nextIn};
 use base::DONE;
 use base::REFUSED_CLOCK;
-use base::REFUSED_FULL;
 use base::REFUSED_HOST;
 use base::REFUSED_SLOT;
 use base::REFUSED_SPREAD;
@@ -155,51 +153,15 @@ fn host_act(s: Settings, e: Event, h: Host) -> Stepped
     }
 }
 
-// Whether the clocks stay near: only an advance of one can change that.
-fn near_by(s: Settings, e: Event, low: u64, high: u64) -> bool
-    requires { ⌜ low ≤ high ⌝ }
-    ensures { λ r. ⌜ r ≡ nearBy s e low high ⌝ }
-{
-    match e {
-        Event::AdvanceAll(_) => true,
-        Event::AdvanceOne(_, _) => places::spread_ok(s, low, high),
-        Event::Start(_, _) => true,
-        Event::Deliver(_) => true,
-        Event::Lose(_) => true,
-        Event::Repeat(_) => true,
-        Event::Restart(_) => true,
-        Event::Release(_) => true,
-    }
-}
-
-// An event at a host: 5, the host's own refusals, 14 and 13.
-pub fn host_step(
-    s: Settings,
-    e: Event,
-    number: u8,
-    h: Host,
-    low: u64,
-    high: u64,
-    empty: usize,
-) -> Stepped
-    requires { ⌜ (hostOk s h ≡ true) × (low ≤ high) ⌝ }
-    ensures { λ r. ⌜ r ≡ hostStep s e number h low high empty ⌝ }
+// An event at a host: 5, then the host's own refusals.
+pub fn host_step(s: Settings, e: Event, number: u8, h: Host) -> Stepped
+    requires { ⌜ hostOk s h ≡ true ⌝ }
+    ensures { λ r. ⌜ r ≡ hostStep s e number h ⌝ }
 {
     if s.n <= number {
         return host::refused_with(REFUSED_HOST, h);
     }
-    let step = host_act(s, e, h);
-    if step.answer != DONE {
-        return host::refused_with(step.answer, h);
-    }
-    if !near_by(s, e, low, high) {
-        return host::refused_with(REFUSED_SPREAD, h);
-    }
-    let sent = step.sent;
-    if empty < change::messages_in(sent, step.receivers) {
-        return host::refused_with(REFUSED_FULL, h);
-    }
-    step
+    host_act(s, e, h)
 }
 
 // An advance of one host: 5, 15 and 14.
@@ -251,22 +213,9 @@ pub fn deliver_step(s: Settings, h: Host, content: Content) -> Stepped
     }
 }
 
-// The answer of a step, or 13 where it sends more messages than there are empty slots.
-pub fn answer_with_room(answer: u8, sent: Sent, receivers: u16, empty: usize) -> u8
-    ensures { λ r. ⌜ r ≡ answerWithRoom answer sent receivers empty ⌝ }
-{
-    if answer != DONE {
-        return answer;
-    }
-    if empty < change::messages_in(sent, receivers) {
-        return REFUSED_FULL;
-    }
-    DONE
-}
-
-// 12 of a loss.
-pub fn lose_answer(content: Content) -> u8
-    ensures { λ r. ⌜ r ≡ loseAnswer content ⌝ }
+// 12 of a loss or a repeat.
+pub fn slot_answer(content: Content) -> u8
+    ensures { λ r. ⌜ r ≡ slotAnswer content ⌝ }
 {
     if slots::is_empty(content) {
         return REFUSED_SLOT;
@@ -274,20 +223,8 @@ pub fn lose_answer(content: Content) -> u8
     DONE
 }
 
-// 12 and 13 of a repeat.
-pub fn repeat_answer(content: Content, empty: usize) -> u8
-    ensures { λ r. ⌜ r ≡ repeatAnswer content empty ⌝ }
-{
-    if slots::is_empty(content) {
-        return REFUSED_SLOT;
-    }
-    if empty == 0 {
-        return REFUSED_FULL;
-    }
-    DONE
-}
-
-fn sent_in(content: Content) -> Sent
+// The message that a repeat sends; nothing where 12 refuses it.
+pub fn sent_in(content: Content) -> Sent
     ensures { λ r. ⌜ r ≡ sentIn content ⌝ }
 {
     match content {
@@ -296,32 +233,11 @@ fn sent_in(content: Content) -> Sent
     }
 }
 
-// The message that a repeat sends, unless it is refused.
-pub fn repeat_sent(answer: u8, content: Content) -> Sent
-    ensures { λ r. ⌜ r ≡ repeatSent answer content ⌝ }
-{
-    if answer != DONE {
-        return Sent::Nothing;
-    }
-    sent_in(content)
-}
-
 // A slot after a loss: emptied, unless that is refused.
 pub fn slot_with(answer: u8, held: Slot) -> Slot
     ensures { λ r. ⌜ r ≡ slotWithAnswer answer held ⌝ }
 {
     slots::slot_after(answer == DONE, held)
-}
-
-// How many slots are empty after it.
-pub fn empty_with(answer: u8, empty: usize) -> usize
-    requires { ⌜ empty < 2 ^ 64 - 1 ⌝ }
-    ensures { λ r. ⌜ r ≡ emptyWith answer empty ⌝ }
-{
-    if answer == DONE {
-        return empty + 1;
-    }
-    empty
 }
 
 // ---- what the walk that places asks for

@@ -27,18 +27,19 @@ use Rattle.cell.specs.declared.Answered.{Answered}
 use Rattle.cell.specs.CellLimits.{contentAt}
 use Rattle.cell.specs.Events.{answeredWith, cellOf, messagesIn, sentTo, stepped, advancedAll}
 use Rattle.cell.specs.Events.{advancedOne, deliverStep, countedFor, deliverFull, delivered}
-use Rattle.cell.specs.Events.{repeated, refusalOf, afterOf, eventOf}
+use Rattle.cell.specs.Events.{repeated, refusalOf, afterOf, lookedOf, eventOf}
 
 -- ---- both outcomes
 
 -- what holds of both outcomes of an event holds of it
 pub by-outcome : (P : Answered → Type 0) (c : Cell) (e : Event)
-    → (refusalOf c e ≡ done → P (answeredWith done (afterOf c e)))
-    → ((refusalOf c e ≡ done → ⊥) → P (answeredWith (refusalOf c e) c)) → P (eventOf c e)
+    → (refusalOf c e ≡ done → P (answeredWith done (lookedOf c e) (afterOf c e)))
+    → ((refusalOf c e ≡ done → ⊥) → P (answeredWith (refusalOf c e) (lookedOf c e) c))
+    → P (eventOf c e)
 unfolding eventOf
 by-outcome P c e f g =
-    by-test P (eqb (refusalOf c e) done) (answeredWith done (afterOf c e))
-    (answeredWith (refusalOf c e) c)
+    by-test P (eqb (refusalOf c e) done) (answeredWith done (lookedOf c e) (afterOf c e))
+    (answeredWith (refusalOf c e) (lookedOf c e) c)
     (λ p. f (eqb-true (refusalOf c e) done p)) (λ p. g (eqb-false (refusalOf c e) done p))
 
 pub answer-is : (c : Cell) (e : Event) → eventOf c e .answer ≡ refusalOf c e

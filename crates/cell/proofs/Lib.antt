@@ -2,6 +2,7 @@
 pub mod Hosts
 pub mod CellLimits
 pub mod Events
+pub mod Looked
 pub mod StaysWithin
 pub mod HostChanges
 pub mod Claims

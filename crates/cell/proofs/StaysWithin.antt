@@ -90,8 +90,8 @@ pub by-opening : (P : Cell → Type 0)
 unfolding openingOf
 by-opening P f s clock =
     by-test (λ (x : Answered). P (cellOf x)) (eqb (openingRefusal s clock) done)
-    (answeredWith done (openedWith s clock))
-    (answeredWith (openingRefusal s clock) (openedWith leastSettings 0))
+    (answeredWith done 0 (openedWith s clock))
+    (answeredWith (openingRefusal s clock) 0 (openedWith leastSettings 0))
     (λ p. f s clock (opens-in s clock (eqb-true (openingRefusal s clock) done p)))
     (λ _. f leastSettings 0 least-opens)
 

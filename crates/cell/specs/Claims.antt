@@ -4,8 +4,9 @@ use Prim.Native.Nat.{ℕ}
 use mathlib.Core.Path.{_≡_}
 use mathlib.Core.Bool.{true}
 use lib.ListN.{length}
-use Rattle.base.specs.Refusals.{done}
+use Rattle.base.specs.Refusals.{done, refusedFull}
 use Rattle.state.specs.declared.Settings.{Settings}
+use Rattle.slots.specs.Slots.{slotCount}
 use Rattle.cell.specs.declared.Cell.{Cell}
 use Rattle.cell.specs.declared.Event.{Event}
 use Rattle.cell.specs.CellLimits.{cellOk}
@@ -33,3 +34,8 @@ pub record Claims : Type 0 where
       → cellOf (eventOf c e) ≡ c
   -- the settings stay
   pub settings : (c : Cell) (e : Event) → eventOf c e .settings ≡ c .settings
+  -- 0 slots are looked at where anything but 13 refuses it, and all 96 where 13 does
+  pub unlooked : (c : Cell) (e : Event) → (eventOf c e .answer ≡ done → ⊥)
+      → (eventOf c e .answer ≡ refusedFull → ⊥) → eventOf c e .looked ≡ 0
+  pub all-looked : (c : Cell) (e : Event) → Sized c → eventOf c e .answer ≡ refusedFull
+      → eventOf c e .looked ≡ slotCount

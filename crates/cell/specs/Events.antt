@@ -1,11 +1,12 @@
 -- Opening and the eight events, in document 01's order, with document 02's release: what is refused
--- and what is done, apart. The host's part of each is the rule book's. Assumes nothing.
+-- and what is done, apart, and how many slots were looked at. The host's part of each is the rule
+-- book's. Assumes nothing.
 use Prim.Native.Nat.{ℕ}
-use mathlib.Core.Bool.{cond}
+use mathlib.Core.Bool.{cond, _||_}
 use mathlib.Core.List.{List, [], _∷_}
 use lib.Dec.{ltb, leb, eqb}
 use Rattle.base.specs.Refusals.{done, unless, firstOf, test, Refusal, refusal, answerBy}
-use Rattle.base.specs.Refusals.{refusedCell, refusedHost, refusedTick, refusedSpread}
+use Rattle.base.specs.Refusals.{refusedCell, refusedHost, refusedTick, refusedFull, refusedSpread}
 use Rattle.quorum.specs.Sets.{sizeOf}
 use Rattle.message.specs.declared.Message.{Message}
 use Rattle.message.specs.Message.{lastTick, targetOf}
@@ -18,7 +19,8 @@ use Rattle.host.specs.Steps.{startRefusal, onStart, releaseRefusal, onRelease, 
 use Rattle.places.specs.Places.{newHosts, advancesRefusal, advancedHosts}
 use Rattle.slots.specs.declared.Slot.{Slot}
 use Rattle.slots.specs.declared.Content.{Content}
-use Rattle.slots.specs.Slots.{noMessages, slotRefusal, fullRefusal, placed, placedTo, freed}
+use Rattle.slots.specs.Slots.{noMessages, slotRefusal, fullRefusal, placed, placedTo, lookedFor}
+use Rattle.slots.specs.Slots.{freed}
 use Rattle.cell.specs.declared.Cell.{Cell}
 use Rattle.cell.specs.declared.Event.{Event}
 use Rattle.cell.specs.declared.Event.the-variants.{AdvanceAll, AdvanceOne, Start, Deliver}
@@ -28,16 +30,24 @@ use Rattle.cell.specs.CellLimits.{hostAt, withHost, contentAt, clocksNea
 
 -- ---- parts of an event
 
-abbrev pub answeredWith : ℕ → Cell → Answered
-answeredWith a c = record { answer = a; settings = c .settings; hosts = c .hosts; slots = c .slots }
+-- an answer, how many slots were looked at, and a cell
+abbrev pub answeredWith : ℕ → ℕ → Cell → Answered
+answeredWith a k c =
+    record {
+      answer = a;
+      looked = k;
+      settings = c .settings;
+      hosts = c .hosts;
+      slots = c .slots;
+    }
 
 -- the cell beside an answer
 abbrev pub cellOf : Answered → Cell
 cellOf a = record { settings = a .settings; hosts = a .hosts; slots = a .slots }
 
 -- what was done where nothing was refused, else what was handed in with the refusal's number
-abbrev pub answerWith : ℕ → Cell → Cell → Answered
-answerWith a c after = cond (eqb a done) (answeredWith done after) (answeredWith a c)
+abbrev pub answerWith : ℕ → ℕ → Cell → Cell → Answered
+answerWith a k c after = cond (eqb a done) (answeredWith done k after) (answeredWith a k c)
 
 abbrev pub withSlots : Cell → List Slot → Cell
 withSlots c ss = record { settings = c .settings; hosts = c .hosts; slots = ss }
@@ -54,6 +64,10 @@ messagesIn (Sent.One m) receivers = sizeOf receivers
 -- 13, for what a step sends
 abbrev pub stepFull : List Slot → Stepped → ℕ
 stepFull ss step = fullRefusal (messagesIn (step .sent) (step .receivers)) ss
+
+-- how many slots are looked at to place what a step sends
+abbrev pub stepLooked : List Slot → Stepped → ℕ
+stepLooked ss step = lookedFor (messagesIn (step .sent) (step .receivers)) ss
 
 -- the slots with what a step sends
 unfoldable pub sentTo : ℕ → List Slot → Sent → ℕ → List Slot
@@ -86,7 +100,7 @@ leastSettings = record { n = 1; longest = 1; spread = 0 }
 
 unfoldable pub openingOf : Settings → ℕ → Answered
 openingOf s clock =
-    answerWith (openingRefusal s clock) (openedWith leastSettings 0) (openedWith s clock)
+    answerWith (openingRefusal s clock) 0 (openedWith leastSettings 0) (openedWith s clock)
 
 -- ---- advance all by d: 1, 15
 
@@ -146,13 +160,18 @@ startAtRefusal c h d =
 abbrev pub deliverStep : Cell → Message → Stepped
 deliverStep c m = onDelivery (c .settings) (hostAt c (targetOf m)) m
 
--- the slots of which 13 counts the empty ones
+-- the slots that 13 and the walk that places are about
 abbrev pub countedFor : Cell → ℕ → List Slot
 countedFor c i = freed (c .slots) i
 
 unfoldable pub deliverFull : Cell → ℕ → Content → ℕ
 deliverFull c i Content.Empty = done
 deliverFull c i (Content.One m) = stepFull (countedFor c i) (deliverStep c m)
+
+-- the slot that a delivery frees is empty for the walk
+unfoldable pub deliverLooked : Cell → ℕ → Content → ℕ
+deliverLooked c i Content.Empty = 0
+deliverLooked c i (Content.One m) = stepLooked (countedFor c i) (deliverStep c m)
 
 unfoldable pub deliverRefusal : Cell → ℕ → ℕ
 deliverRefusal c i =
@@ -231,6 +250,24 @@ afterOf c (Repeat i) = repeated c (contentAt c i)
 afterOf c (Restart h) = withHost c h (restartedHost (c .settings) (hostAt c h))
 afterOf c (Release h) = stepped c h (c .slots) (releaseStep c h)
 
+-- how many slots an event looks at to place what it sends, where it gets so far (02)
+unfoldable pub placingOf : Cell → Event → ℕ
+placingOf c (AdvanceAll d) = 0
+placingOf c (AdvanceOne h d) = 0
+placingOf c (Start h d) = stepLooked (c .slots) (startStep c h d)
+placingOf c (Deliver i) = deliverLooked c i (contentAt c i)
+placingOf c (Lose i) = 0
+placingOf c (Repeat i) = lookedFor 1 (c .slots)
+placingOf c (Restart h) = 0
+placingOf c (Release h) = stepLooked (c .slots) (releaseStep c h)
+
+-- it gets so far unless anything but 13 refuses it
+abbrev pub countWith : ℕ → ℕ → ℕ
+countWith a k = cond (eqb a done || eqb a refusedFull) k 0
+
+unfoldable pub lookedOf : Cell → Event → ℕ
+lookedOf c e = countWith (refusalOf c e) (placingOf c e)
+
 -- a refused event changes nothing
 unfoldable pub eventOf : Cell → Event → Answered
-eventOf c e = answerWith (refusalOf c e) c (afterOf c e)
+eventOf c e = answerWith (refusalOf c e) (lookedOf c e) c (afterOf c e)

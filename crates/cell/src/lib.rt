@@ -33,23 +33,27 @@ pub enum Event {
     Release(u8),
 }
 
-// What opening or an event gives, and the next event is handed: the answer's number and the cell,
-// side by side, so that the cell can be changed in place.
+// What opening or an event gives, and the next event is handed: the answer's number, how many slots
+// were looked at to place what was sent, and the cell, side by side, so that the cell can be
+// changed in place.
 pub struct Answered {
     pub answer: u8,
+    pub looked: usize,
     pub settings: Settings,
     pub hosts: [Host; 9],
     pub slots: [Slot; 96],
 }
 
+// Opening looks at no slot.
 fn answered_with(answer: u8, c: Cell) -> Answered
-    ensures { λ r. ⌜ r ≡ answeredWith answer c ⌝ }
+    ensures { λ r. ⌜ r ≡ answeredWith answer 0 c ⌝ }
 {
     let settings = c.settings;
     let hosts = c.hosts;
     let slots = c.slots;
     Answered {
         answer,
+        looked: 0,
         settings,
         hosts,
         slots,

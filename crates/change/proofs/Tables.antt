@@ -6,26 +6,27 @@ use mathlib.Core.Bool.{Bool, true, false, _&&_, not}
 use mathlib.Core.List.{List, [], _∷_}
 use Prim.Native.Nat.{ℕ, _≤_, _<_}
 use native.Mathlib.Omega.{arith}
-use lib.Dec.{ltb}
-use lib.ListN.{getD, set}
+use lib.Dec.{ltb, eqb}
+use lib.ListN.{length, getD, set}
 use lib.Seq.{set-getD}
 use borrow.Author.Tests.{lt-ltb, le-ltb, le-leb, lt-leb, ne-eqb}
 use Rattle.base.specs.Refusals.{done, unless, firstOf, refusedCell, refusedHost, refusedSlot}
 use Rattle.base.specs.Refusals.{refusedSpread, refusedFull}
-use Rattle.base.proofs.Tests.{true-false, first-passed, first-next, first-only, first-same}
-use Rattle.base.proofs.Tests.{first-found, unless-next}
-use Rattle.quorum.specs.Sets.{singleOf}
+use Rattle.base.proofs.Tests.{true-false, by-test, first-passed, first-next, first-only}
+use Rattle.base.proofs.Tests.{first-same, first-found, unless-next, unless-of}
+use Rattle.quorum.specs.Sets.{singleOf, members}
 use Rattle.quorum.proofs.Laws.{members-single}
 use Rattle.quorum.proofs.Majorities.{size-single}
 use Rattle.message.specs.declared.Message.{Message}
 use Rattle.message.specs.Message.{addressedTo, targetOf}
 use Rattle.message.proofs.Laws.{message-numbers, target-in}
+use Rattle.state.specs.declared.Settings.{Settings}
 use Rattle.state.specs.StateLimits.{sizesOf}
 use Rattle.host.specs.declared.Host.{Host}
 use Rattle.host.specs.declared.Sent.{Sent}
 use Rattle.host.specs.declared.Stepped.{Stepped}
-use Rattle.host.specs.Steps.{refusedWith, quietWith, sendingWith, advanceRefusal, advanceOf}
-use Rattle.host.specs.Steps.{advancedHost, restartRefusal, restartOf, restartedHost}
+use Rattle.host.specs.Steps.{refusedWith, quietWith, sendingWith, stepWith, advanceRefusal}
+use Rattle.host.specs.Steps.{advanceOf, advancedHost, restartRefusal, restartOf, restartedHost}
 use Rattle.host.specs.Steps.{receiveRefusal, receiveOf}
 use Rattle.host.specs.Claims.{Lawful}
 use Rattle.host.proofs.Refusals.{message-passed}
@@ -35,7 +36,7 @@ use Rattle.host.proofs.Outcomes.{Cause, begins, letsGo, gets, stepOn, stays-ste
 use Rattle.slots.specs.declared.Slot.{Slot}
 use Rattle.slots.specs.declared.Content.{Content}
 use Rattle.slots.specs.Slots.{slotCount, emptySlot, isEmpty, slotRefusal, empties, fullRefusal}
-use Rattle.slots.specs.Slots.{placed, placedEach, placedTo, freed}
+use Rattle.slots.specs.Slots.{placed, placedEach, lookedFor, freed}
 use Rattle.slots.specs.Parts.{slotAfter}
 use Rattle.cell.specs.declared.Cell.{Cell}
 use Rattle.cell.specs.declared.Event.{Event}
@@ -43,15 +44,20 @@ use Rattle.cell.specs.declared.Event.the-variants.{AdvanceAll, AdvanceOne, Star
 use Rattle.cell.specs.declared.Event.the-variants.{Repeat, Restart, Release}
 use Rattle.cell.specs.CellLimits.{hostAt, withHost, contentAt, clocksNear, cellOk}
 use Rattle.cell.specs.Events.{answeredWith, answerWith, withSlots, hostRefusal, messagesIn}
-use Rattle.cell.specs.Events.{stepFull, sentTo, stepped, hostsRefusal, advanceAllRefusal}
+use Rattle.cell.specs.Events.{stepFull, stepLooked, sentTo, stepped, hostsRefusal}
+use Rattle.cell.specs.Events.{advanceAllRefusal}
 use Rattle.cell.specs.Events.{advancedAll, advanceOneRefusal, advancedOne, stepAtRefusal}
 use Rattle.cell.specs.Events.{startAtRefusal, deliverStep, deliverFull, deliverRefusal, delivered}
 use Rattle.cell.specs.Events.{loseRefusal, repeatRefusal, repeated, restartAtRefusal}
-use Rattle.cell.specs.Events.{releaseAtRefusal, refusalOf, afterOf, eventOf}
+use Rattle.cell.specs.Events.{releaseAtRefusal, deliverLooked, refusalOf, afterOf, placingOf}
+use Rattle.cell.specs.Events.{countWith, lookedOf, eventOf}
 use Rattle.cell.specs.Claims.{Sized}
 use Rattle.cell.proofs.Hosts.{sized-host, host-keeps, out-near}
 use Rattle.cell.proofs.CellLimits.{cell-in, n-of, message-of}
 use Rattle.cell.proofs.StaysWithin.{host-passed, still-near}
+use Rattle.cell.proofs.Looked.{Reaches, NotFull, count-zero, count-same, reaches-past}
+use Rattle.cell.proofs.Looked.{start-not-full, release-not-full, Counted, counted-writes}
+use Rattle.cell.proofs.Looked.{counted-one}
 use Rattle.change.specs.declared.Change.{Change}
 use Rattle.change.specs.Parts.{change, stepOf, isAll, ticksOf, slotOf, targetIn, hostOf}
 use Rattle.change.specs.Parts.{deliverChange, loseChange, repeatChange, changeOf, slotsAfter}
@@ -93,6 +99,63 @@ all-is (Repeat i) p = true-false (sym p)
 all-is (Restart h) p = true-false (sym p)
 all-is (Release h) p = true-false (sym p)
 
+-- ---- what is not sent looks at no slot
+
+quiet-looked : (ss : List Slot) (step : Stepped) → step .sent ≡ Sent.Nothing
+    → stepLooked ss step ≡ 0
+unfolding messagesIn lookedFor
+quiet-looked ss step e = rw e
+
+-- what is refused is not sent
+refused-quiet : (s : Settings) (h : Host) (k : ℕ) (step result : Stepped) → Lawful s h k step result
+    → (result .answer ≡ done → ⊥) → result .sent ≡ Sent.Nothing
+refused-quiet s h k step result l n =
+    ap (λ (y : Stepped). y .sent) (l .unchanged (λ q. n (l .number ∙ q)))
+
+-- an advance and a restart send nothing
+quiet-with : (k : ℕ) (h x : Host) → stepWith k h (quietWith x) .sent ≡ Sent.Nothing
+quiet-with k h x =
+    by-test (λ (y : Stepped). y .sent ≡ Sent.Nothing) (eqb k done) (quietWith x) (refusedWith k h)
+    (λ _. refl) (λ _. refl)
+
+advance-quiet : (s : Settings) (h : Host) (d : ℕ) → advanceOf s h d .sent ≡ Sent.Nothing
+unfolding advanceOf
+advance-quiet s h d = quiet-with (advanceRefusal s h d) h (advancedHost h d)
+
+restart-quiet : (s : Settings) (h : Host) → restartOf s h .sent ≡ Sent.Nothing
+unfolding restartOf
+restart-quiet s h = quiet-with (restartRefusal s h) h (restartedHost s h)
+
+-- a change that is refused sends nothing
+abbrev Quiet : Change → Type 0
+Quiet k = (k .answer ≡ done → ⊥) → k .sent ≡ Sent.Nothing
+
+deliver-quiet : (s : Settings) (h : Host) (t : Content) → Quiet (deliverChange s h t)
+unfolding deliverChange
+deliver-quiet s h Content.Empty n = refl
+deliver-quiet s h (Content.One m) n = refused-quiet s h _ _ _ (lawful-message s h m) n
+
+lose-quiet : (h : Host) (t : Content) → loseChange h t .sent ≡ Sent.Nothing
+unfolding loseChange
+lose-quiet h Content.Empty = refl
+lose-quiet h (Content.One m) = refl
+
+repeat-quiet : (h : Host) (t : Content) → Quiet (repeatChange h t)
+unfolding repeatChange
+repeat-quiet h Content.Empty n = refl
+repeat-quiet h (Content.One m) n = absurd (n refl)
+
+change-quiet : (s : Settings) (e : Event) (h : Host) (t : Content) → Quiet (changeOf s e h t)
+unfolding changeOf
+change-quiet s (AdvanceAll d) h t n = refl
+change-quiet s (AdvanceOne k d) h t n = advance-quiet s h d
+change-quiet s (Start k d) h t n = refused-quiet s h _ _ _ (lawful-start s h d) n
+change-quiet s (Deliver i) h t n = deliver-quiet s h t n
+change-quiet s (Lose i) h t n = lose-quiet h t
+change-quiet s (Repeat i) h t n = repeat-quiet h t n
+change-quiet s (Restart k) h t n = restart-quiet s h
+change-quiet s (Release k) h t n = refused-quiet s h _ _ _ (lawful-release s h) n
+
 -- ---- a cell past its limits: 1, whatever the event
 
 past-refusal : (c : Cell) (e : Event) → cellOk c ≡ false → refusalOf c e ≡ refusedCell
@@ -108,9 +171,11 @@ past-refusal c (Restart h) o = rw o
 past-refusal c (Release h) o = rw o
 
 pub past-limits : (c : Cell) (e : Event) → cellOk c ≡ false
-    → answeredWith refusedCell c ≡ eventOf c e
-unfolding eventOf
-past-limits c e o = sym (ap (λ (k : ℕ). answerWith k c (afterOf c e)) (past-refusal c e o))
+    → answeredWith refusedCell 0 c ≡ eventOf c e
+unfolding eventOf lookedOf
+past-limits c e o =
+    sym (ap (λ (k : ℕ). answerWith k (countWith k (placingOf c e)) c (afterOf c e))
+    (past-refusal c e o))
 
 -- a message under way has its target below n
 pub target-small : (c : Cell) (i : ℕ) → cellOk c ≡ true → targetIn (contentAt c i) < 16
@@ -395,6 +460,117 @@ module _ (c : Cell) (z : Sized c) (o : cellOk c ≡ true) where
   after-is (Release h) p q =
       own-after h letsGo _ _ (lawful-release (c .settings) (hostAt c h)) q
 
+  -- ---- how many slots are looked at, by any event but an advance of all
+
+  abbrev looks : ℕ → Change → ℕ
+  looks i k = stepLooked (slotsAfter c i k) (stepOf k)
+
+  nothing-looked : (i : ℕ) (k : Change) → k .sent ≡ Sent.Nothing → 0 ≡ looks i k
+  nothing-looked i k e = sym (quiet-looked (slotsAfter c i k) (stepOf k) e)
+
+  cell-reached : (ks : List ℕ) → Reaches (firstOf (unless (cellOk c) refusedCell ∷ ks))
+      → Reaches (firstOf ks)
+  cell-reached ks r = rw (cell-passed ks) at r
+
+  own-looked : (h : ℕ) (k : ℕ) (step result : Stepped) → NotFull k
+      → Lawful (c .settings) (hostAt c h) k step result → Reaches (stepAtRefusal c h k step)
+      → stepLooked (c .slots) step ≡ looks 0 (change result false)
+  own-looked h k step result n l r =
+      let x = reaches-past (hostRefusal c h) _ host-not-full (cell-reached _ r) in
+      let q = l .carried-out (reaches-past k _ n (x .1) .0) in
+      ap (λ (ss : List Slot). stepLooked ss step) (sym (keeps (c .slots) 0))
+      ∙ ap (λ (y : Stepped). looks 0 (change y false)) (sym q)
+    where
+      host-not-full : NotFull (hostRefusal c h)
+      host-not-full =
+          unless-of NotFull (ltb h (c .settings .n)) refusedHost (λ e. absurd (omega (arith, e)))
+          (λ e. absurd (omega (arith, e)))
+
+  deliver-looked : (i : ℕ) (t : Content) → contentAt c i ≡ t
+      → deliverLooked c i t ≡ looks i (delivers i t)
+  unfolding deliverLooked deliverChange slotAfter
+  deliver-looked i Content.Empty e = nothing-looked i (delivers i Content.Empty) refl
+  deliver-looked i (Content.One m) e =
+      ap (λ (y : Stepped). stepLooked (freed (c .slots) i) y) (sym (steps i m e))
+
+  -- an empty slot is refused by 12
+  empty-refused : (i : ℕ) → slotRefusal i Content.Empty ≡ refusedSlot
+  unfolding isEmpty
+  empty-refused i = go (ltb i slotCount)
+    where
+      go : (b : Bool) → unless (b && false) refusedSlot ≡ refusedSlot
+      go true = refl
+      go false = refl
+
+  repeat-looked : (i : ℕ) (t : Content)
+      → Reaches (firstOf (unless (cellOk c) refusedCell ∷ slotRefusal i t ∷ fullRefusal 1 (c .slots)
+      ∷ [])) → lookedFor 1 (c .slots) ≡ looks i (repeatChange (hostAt c 0) t)
+  unfolding repeatChange messagesIn
+  repeat-looked i Content.Empty r =
+      let none =
+      reaches-past (slotRefusal i Content.Empty) (fullRefusal 1 (c .slots) ∷ [])
+      (λ e. absurd (omega (arith, sym (empty-refused i) ∙ e)))
+      (cell-reached (slotRefusal i Content.Empty ∷ fullRefusal 1 (c .slots) ∷ []) r) .0 in
+      absurd (omega (arith, sym (empty-refused i) ∙ none))
+  repeat-looked i (Content.One m) r = rw (keeps (c .slots) i, size-single (targetOf m))
+
+  placing-is : (e : Event) → isAll e ≡ false → Reaches (refusalOf c e)
+      → placingOf c e ≡ looks (slotOf e) (changes e)
+  unfolding refusalOf placingOf changeOf startAtRefusal repeatRefusal releaseAtRefusal
+  placing-is (AdvanceAll d) p r = true-false p
+  placing-is (AdvanceOne h d) p r =
+      nothing-looked 0 (changes (AdvanceOne h d)) (advance-quiet (c .settings) (hostAt c h) d)
+  placing-is (Start h d) p r =
+      own-looked h _ _ _ (start-not-full (c .settings) (hostAt c h) d)
+      (lawful-start (c .settings) (hostAt c h) d) r
+  placing-is (Deliver i) p r = deliver-looked i (contentAt c i) refl
+  placing-is (Lose i) p r =
+      nothing-looked i (changes (Lose i)) (lose-quiet (hostAt c 0) (contentAt c i))
+  placing-is (Repeat i) p r = repeat-looked i (contentAt c i) r
+  placing-is (Restart h) p r =
+      nothing-looked 0 (changes (Restart h)) (restart-quiet (c .settings) (hostAt c h))
+  placing-is (Release h) p r =
+      own-looked h _ _ _ (release-not-full (c .settings) (hostAt c h))
+      (lawful-release (c .settings) (hostAt c h)) r
+
+  -- ---- and to how many hosts it sends
+
+  abbrev CountedIn : Change → Type 0
+  CountedIn k = Counted (c .settings .n) (k .sent) (k .receivers)
+
+  deliver-counted : (h : Host) (t : Content) → CountedIn (deliverChange (c .settings) h t)
+  unfolding deliverChange Counted
+  deliver-counted h Content.Empty = tt
+  deliver-counted h (Content.One m) =
+      counted-writes (c .settings) _ _ (lawful-message (c .settings) h m .writable)
+
+  lose-counted : (h : Host) (t : Content) → CountedIn (loseChange h t)
+  unfolding loseChange Counted
+  lose-counted h Content.Empty = tt
+  lose-counted h (Content.One m) = tt
+
+  repeat-counted : (i : ℕ) (t : Content) → contentAt c i ≡ t
+      → CountedIn (repeatChange (hostAt c 0) t)
+  unfolding repeatChange Counted
+  repeat-counted i Content.Empty e = tt
+  repeat-counted i (Content.One m) e =
+      counted-one (c .settings .n) (targetOf m) m (in-reach i m e)
+
+  change-counted : (e : Event) → isAll e ≡ false → CountedIn (changes e)
+  unfolding changeOf
+  change-counted (AdvanceAll d) p = true-false p
+  change-counted (AdvanceOne h d) p =
+      counted-writes (c .settings) _ _ (lawful-advance (c .settings) (hostAt c h) d .writable)
+  change-counted (Start h d) p =
+      counted-writes (c .settings) _ _ (lawful-start (c .settings) (hostAt c h) d .writable)
+  change-counted (Deliver i) p = deliver-counted _ (contentAt c i)
+  change-counted (Lose i) p = lose-counted _ (contentAt c i)
+  change-counted (Repeat i) p = repeat-counted i (contentAt c i) refl
+  change-counted (Restart h) p =
+      counted-writes (c .settings) _ _ (lawful-restart (c .settings) (hostAt c h) .writable)
+  change-counted (Release h) p =
+      counted-writes (c .settings) _ _ (lawful-release (c .settings) (hostAt c h) .writable)
+
   -- ---- an advance of all
 
   module _ (e : Event) (d : ℕ) (p : isAll e ≡ true) (t : d ≡ ticksOf e) where
@@ -405,19 +581,24 @@ module _ (c : Cell) (z : Sized c) (o : cellOk c ≡ true) where
     unfolding refusalOf advanceAllRefusal
     all-refusal = cell-passed _ ∙ first-only (hostsRefusal c d)
 
-    pub all-refused : (a : ℕ) → (a ≡ done → ⊥) → hostsRefusal c d ≡ a
-        → answeredWith a c ≡ eventOf c e
-    unfolding eventOf
-    all-refused a n q =
-        sym (ap (eventOf c) all-event
-        ∙ ap (λ (k : ℕ). answerWith k c (afterOf c (AdvanceAll d))) (all-refusal ∙ q)
-        ∙ rw (ne-eqb a done n))
+    -- it looks at no slot
+    all-looked : lookedOf c (AdvanceAll d) ≡ 0
+    unfolding lookedOf placingOf
+    all-looked = count-zero (refusalOf c (AdvanceAll d))
 
-    pub all-done : hostsRefusal c d ≡ done → answeredWith done (advancedAll c d) ≡ eventOf c e
+    all-is-event : (a : ℕ) → hostsRefusal c d ≡ a
+        → eventOf c e ≡ answerWith a 0 c (advancedAll c d)
     unfolding eventOf afterOf
-    all-done q =
-        sym (ap (eventOf c) all-event
-        ∙ ap (λ (k : ℕ). answerWith k c (advancedAll c d)) (all-refusal ∙ q))
+    all-is-event a q =
+        ap (eventOf c) all-event
+        ∙ rw (all-looked, all-refusal, q)
+
+    pub all-refused : (a : ℕ) → (a ≡ done → ⊥) → hostsRefusal c d ≡ a
+        → answeredWith a 0 c ≡ eventOf c e
+    all-refused a n q = sym (all-is-event a q ∙ rw (ne-eqb a done n))
+
+    pub all-done : hostsRefusal c d ≡ done → answeredWith done 0 (advancedAll c d) ≡ eventOf c e
+    all-done q = sym (all-is-event done q)
 
 -- ---- any other event: what the code has found of it
 
@@ -433,28 +614,57 @@ module _ {c : Cell} {e : Event} {i h : ℕ} {k : Change} (f : Found c e i h k) w
   is-found : refusalOf c e ≡ changeRefusal c i h k
   is-found = rw (f .change-is, f .host-is, f .slot-is) (refusal-is c (f .sized) (f .ok) e (f .one))
 
-  -- refused: the same cell with the number
-  pub event-refused : (a : ℕ) → (a ≡ done → ⊥) → changeRefusal c i h k ≡ a
-      → answeredWith a c ≡ eventOf c e
-  unfolding eventOf
-  event-refused a n q =
-      sym (ap (λ (x : ℕ). answerWith x c (afterOf c e)) (is-found ∙ q) ∙ rw (ne-eqb a done n))
+  -- how many slots are looked at to place what is sent
+  abbrev walked : ℕ
+  walked = stepLooked (slotsAfter c i k) (stepOf k)
 
-  pub event-done : changeRefusal c i h k ≡ done → answeredWith done (changed c i h k) ≡ eventOf c e
+  looked-found : (a : ℕ) → changeRefusal c i h k ≡ a → lookedOf c e ≡ countWith a walked
+  unfolding lookedOf
+  looked-found a q =
+      count-same (refusalOf c e) (placingOf c e) walked
+      (λ r.
+      rw (f .change-is, f .host-is, f .slot-is)
+      (placing-is c (f .sized) (f .ok) e (f .one) r))
+      ∙ ap (λ (x : ℕ). countWith x walked) (is-found ∙ q)
+
+  -- refused: the same cell with the number, and with the count where 13 refuses
+  event-refused-with : (a : ℕ) → (a ≡ done → ⊥) → changeRefusal c i h k ≡ a
+      → answeredWith a (countWith a walked) c ≡ eventOf c e
+  unfolding eventOf
+  event-refused-with a n q =
+      sym (ap (λ (x : ℕ). answerWith (refusalOf c e) x c (afterOf c e)) (looked-found a q)
+      ∙ ap (λ (x : ℕ). answerWith x (countWith a walked) c (afterOf c e)) (is-found ∙ q)
+      ∙ rw (ne-eqb a done n))
+
+  pub event-refused : (a : ℕ) → (a ≡ done → ⊥) → countWith a walked ≡ 0 → changeRefusal c i h k ≡ a
+      → answeredWith a 0 c ≡ eventOf c e
+  event-refused a n z q = rw z at (event-refused-with a n q)
+
+  pub event-done : changeRefusal c i h k ≡ done
+      → answeredWith done walked (changed c i h k) ≡ eventOf c e
   unfolding eventOf
   event-done q =
-      sym (ap (λ (x : ℕ). answerWith x c (afterOf c e)) (is-found ∙ q)
-      ∙ rw (f .change-is, f .host-is, f .slot-is)
-      (ap (answeredWith done) (after-is c (f .sized) (f .ok) e (f .one) (is-found ∙ q))))
+      sym (ap (λ (x : ℕ). answerWith (refusalOf c e) x c (afterOf c e)) (looked-found done q)
+      ∙ ap (λ (x : ℕ). answerWith x walked c (afterOf c e)) (is-found ∙ q)
+      ∙ ap (answeredWith done walked)
+      (rw (f .change-is, f .host-is, f .slot-is)
+      (after-is c (f .sized) (f .ok) e (f .one) (is-found ∙ q))))
 
-  pub slot-refused : slotCount ≤ i → answeredWith refusedSlot c ≡ eventOf c e
+  -- as many messages are sent as there are receivers below n
+  pub found-counted : Counted (c .settings .n) (k .sent) (k .receivers)
+  found-counted =
+      rw (f .change-is, f .host-is, f .slot-is) (change-counted c (f .sized) (f .ok) e (f .one))
+
+  pub slot-refused : slotCount ≤ i → answeredWith refusedSlot 0 c ≡ eventOf c e
   unfolding changeRefusal firstOf
-  slot-refused b = event-refused refusedSlot (λ q. absurd (omega arith)) (rw (le-ltb i slotCount b))
+  slot-refused b =
+      event-refused refusedSlot (λ q. absurd (omega arith)) refl (rw (le-ltb i slotCount b))
 
-  pub host-refused : i < slotCount → c .settings .n ≤ h → answeredWith refusedHost c ≡ eventOf c e
+  pub host-refused : i < slotCount → c .settings .n ≤ h
+      → answeredWith refusedHost 0 c ≡ eventOf c e
   unfolding changeRefusal firstOf
   host-refused b d =
-      event-refused refusedHost (λ q. absurd (omega arith))
+      event-refused refusedHost (λ q. absurd (omega arith)) refl
       (rw (lt-ltb i slotCount b, le-ltb h (c .settings .n) d))
 
   module _ (b : i < slotCount) (d : h < c .settings .n) where
@@ -462,15 +672,24 @@ module _ {c : Cell} {e : Event} {i h : ℕ} {k : Change} (f : Found c e i h k) w
     unfolding changeRefusal firstOf
     numbers-passed = rw (lt-ltb i slotCount b, lt-ltb h (c .settings .n) d)
 
-    pub change-refused : (k .answer ≡ done → ⊥) → answeredWith (k .answer) c ≡ eventOf c e
-    change-refused n = event-refused (k .answer) n (numbers-passed ∙ first-found (k .answer) _ n)
+    pub change-refused : (k .answer ≡ done → ⊥) → answeredWith (k .answer) 0 c ≡ eventOf c e
+    change-refused n =
+        event-refused (k .answer) n
+        (ap (countWith (k .answer)) (quiet-looked (slotsAfter c i k) (stepOf k) quiet)
+        ∙ count-zero (k .answer))
+        (numbers-passed ∙ first-found (k .answer) _ n)
+      where
+        quiet : k .sent ≡ Sent.Nothing
+        quiet =
+            rw (f .change-is)
+            (change-quiet (c .settings) e (hostAt c h) (contentAt c i) (rw (f .change-is) at n))
 
     module _ (q : k .answer ≡ done) where
       pub spread-refused : clocksNear (withHost c h (k .host)) ≡ false
-          → answeredWith refusedSpread c ≡ eventOf c e
+          → answeredWith refusedSpread 0 c ≡ eventOf c e
       unfolding firstOf
       spread-refused l =
-          event-refused refusedSpread (λ q. absurd (omega arith))
+          event-refused refusedSpread (λ q. absurd (omega arith)) refl
           (numbers-passed ∙ first-next (k .answer) (tail c (f .sized) (f .ok) i h k) q ∙ rw l)
 
       -- a clock that did not move is near
@@ -486,24 +705,40 @@ module _ {c : Cell} {e : Event} {i h : ℕ} {k : Change} (f : Found c e i h k) w
         count = messagesIn (k .sent) (k .receivers)
 
         pub full-refused : empties (slotsAfter c i k) < count
-            → answeredWith refusedFull c ≡ eventOf c e
+            → answeredWith refusedFull walked c ≡ eventOf c e
         full-refused l =
-            event-refused refusedFull (λ q. absurd (omega arith))
+            event-refused-with refusedFull (λ q. absurd (omega arith))
             (full-is ∙ rw (lt-leb count (empties (slotsAfter c i k)) l))
 
-        module _ (l : count ≤ empties (slotsAfter c i k)) where
-          committed : answeredWith done (changed c i h k) ≡ eventOf c e
-          committed = event-done (full-is ∙ rw (le-leb count (empties (slotsAfter c i k)) l))
+        pub committed : count ≤ empties (slotsAfter c i k)
+            → answeredWith done walked (changed c i h k) ≡ eventOf c e
+        committed l = event-done (full-is ∙ rw (le-leb count (empties (slotsAfter c i k)) l))
 
-          pub committed-quiet : k .sent ≡ Sent.Nothing
-              → answeredWith done (withSlots (withHost c h (k .host)) (slotsAfter c i k))
+      -- what is sent, and to whom
+      pub committed-quiet : clocksNear (withHost c h (k .host)) ≡ true → k .sent ≡ Sent.Nothing
+          → answeredWith done 0 (withSlots (withHost c h (k .host)) (slotsAfter c i k))
+          ≡ eventOf c e
+      unfolding stepped sentTo messagesIn lookedFor
+      committed-quiet near t = rw t at (committed near (rw t (omega arith)))
+
+      module _ (near : clocksNear (withHost c h (k .host)) ≡ true) (m : Message)
+          (t : k .sent ≡ Sent.One m)
+        where
+          -- to whom it is placed
+          abbrev to : List ℕ
+          to = members (c .settings .n) (k .receivers)
+
+          counts : messagesIn (k .sent) (k .receivers) ≡ length to
+          unfolding messagesIn Counted
+          counts = rw t (rw t at found-counted)
+
+          pub full-sent : empties (slotsAfter c i k) < length to
+              → answeredWith refusedFull (lookedFor (length to) (slotsAfter c i k)) c ≡ eventOf c e
+          full-sent l = rw counts at (full-refused near (rw counts l))
+
+          pub committed-sent : length to ≤ empties (slotsAfter c i k)
+              → answeredWith done (lookedFor (length to) (slotsAfter c i k))
+              (withSlots (withHost c h (k .host)) (placedEach (slotsAfter c i k) m to))
               ≡ eventOf c e
           unfolding stepped sentTo
-          committed-quiet q = rw q at committed
-
-          pub committed-sent : (m : Message) → k .sent ≡ Sent.One m
-              → answeredWith done
-              (withSlots (withHost c h (k .host))
-              (placedTo (c .settings .n) (slotsAfter c i k) m (k .receivers))) ≡ eventOf c e
-          unfolding stepped sentTo
-          committed-sent m q = rw q at committed
+          committed-sent l = rw t at (rw counts at (committed near (rw counts l)))

@@ -7,7 +7,6 @@ use mathlib.Core.List.{List, [], _∷_}
 use lib.Dec.{eqb}
 use lib.ListN.{length, take}
 use Rattle.base.specs.Refusals.{done}
-use Rattle.slots.specs.Slots.{slotCount, empties}
 use Rattle.cell.specs.declared.Cell.{Cell}
 use Rattle.cell.specs.Events.{cellOf, eventOf}
 use Rattle.cell.specs.Claims.{Sound}
@@ -44,7 +43,6 @@ pub record Begins (run out : List ℕ) (from : ℕ) (c : Cell) : Type 0 where
   pub short : length run ≤ longestRun
   pub room : from + 10 * (length run - settingsLength) + 128 ≤ length out
   pub sound : Sound c
-  pub vacant : empties (c .slots) ≡ slotCount
 
 -- n counts bytes at the start of xs, said in the two ways by which `&out[..n]` needs no proof
 abbrev pub Counts : ℕ → List ℕ → Type 0

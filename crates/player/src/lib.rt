@@ -11,6 +11,7 @@ ghost use Rattle.listing.specs.Listing.{listedOf, afterListing};
 ghost use Rattle.listing.specs.Parts.{linesAfter, Begins, Counts};
 use acts::Act;
 use base::DONE;
+use base::REFUSED_FULL;
 use base::REFUSED_LONG;
 use base::REFUSED_ROOM;
 use cell::Answered;
@@ -30,7 +31,8 @@ pub const LISTING_ROOM: usize = 655488;
 
 // The lines of the events, the stop and the counts, from an opened cell on. The cell is handed to
 // no function, since that would copy it: hosts and slots are locals of this loop, the rules are
-// asked with one host and one message, and what they answer is committed here.
+// asked with one host and one message, and what they answer is committed here. A host whose step
+// sends a message is pending until the message is placed, and what a freed slot held is kept.
 fn put_script(run: &[u8], out: &mut [u8], from: usize, opened: Answered) -> usize
     requires { ⌜ Begins (now run) (now out) from (cellOf opened) ⌝ }
     ensures { λ r. ⌜ Put (now (out .entry)) from
@@ -41,7 +43,9 @@ fn put_script(run: &[u8], out: &mut [u8], from: usize, opened: Answered) -> usiz
     let n = s.n as usize;
     let mut hosts = opened.hosts;
     let mut slots = opened.slots;
-    let mut empty = SLOTS;
+    let mut pending = opened.hosts;
+    let mut former = opened.slots;
+    let mut filled: [usize; 9] = [0; 9];
     let mut w = Walk {
         at: SETTINGS_LENGTH,
         pos: from,
@@ -70,38 +74,39 @@ fn put_script(run: &[u8], out: &mut [u8], from: usize, opened: Answered) -> usiz
         let mut sent = Sent::Nothing;
         let mut receivers: u16 = 0;
         let mut moving: usize = 0;
+        let mut who = n;
+        let mut freed = SLOTS;
         match acts::act_of(e) {
             Act::All => {
                 answer = acts::all_answer(e, high);
                 moving = acts::moving_with(answer, n);
             }
             Act::Host(number) => {
-                let who = acts::place_of(s.n, number);
+                who = acts::place_of(s.n, number);
                 let actor = hosts[who];
-                let step = acts::host_step(s, e, number, actor, low, high, empty);
+                let step = acts::host_step(s, e, number, actor);
                 answer = step.answer;
                 let after = step.host;
-                hosts[who] = after;
+                pending[who] = after;
                 sent = step.sent;
                 receivers = step.receivers;
             }
             Act::Deliver(slot) => {
-                let i = acts::slot_index(slot);
-                let held = slots[i];
+                freed = acts::slot_index(slot);
+                let held = slots[freed];
+                former[freed] = held;
                 let content = acts::content_in(slot, held);
-                let who = change::target_in(content) as usize;
+                who = change::target_in(content) as usize;
                 let actor = hosts[who];
                 let step = acts::deliver_step(s, actor, content);
-                let reply = step.sent;
-                answer = acts::answer_with_room(step.answer, reply, step.receivers, empty + 1);
+                answer = step.answer;
                 if answer == DONE {
-                    let acted = step.host;
-                    hosts[who] = acted;
-                    slots[i] = Slot {
+                    let after = step.host;
+                    pending[who] = after;
+                    slots[freed] = Slot {
                         content: Content::Empty,
                     };
-                    empty += 1;
-                    sent = reply;
+                    sent = step.sent;
                     receivers = step.receivers;
                 }
             }
@@ -109,26 +114,25 @@ fn put_script(run: &[u8], out: &mut [u8], from: usize, opened: Answered) -> usiz
                 let i = acts::slot_index(slot);
                 let held = slots[i];
                 let content = acts::content_in(slot, held);
-                answer = acts::lose_answer(content);
+                answer = acts::slot_answer(content);
                 let kept = acts::slot_with(answer, held);
                 slots[i] = kept;
-                empty = acts::empty_with(answer, empty);
             }
             Act::Repeat(slot) => {
                 let i = acts::slot_index(slot);
                 let held = slots[i];
                 let content = acts::content_in(slot, held);
-                answer = acts::repeat_answer(content, empty);
-                sent = acts::repeat_sent(answer, content);
+                answer = acts::slot_answer(content);
+                sent = acts::sent_in(content);
                 receivers = quorum::single_of(change::target_in(content));
             }
             Act::Advance(number) => {
-                let who = acts::place_of(s.n, number);
-                let actor = hosts[who];
+                let i = acts::place_of(s.n, number);
+                let actor = hosts[i];
                 let step = acts::advance_step(s, e, number, actor, low, high);
                 answer = step.answer;
                 let after = step.host;
-                hosts[who] = after;
+                hosts[i] = after;
                 sent = step.sent;
                 receivers = step.receivers;
             }
@@ -140,10 +144,13 @@ fn put_script(run: &[u8], out: &mut [u8], from: usize, opened: Answered) -> usiz
             hosts[k] = after;
             k += 1;
         }
-        // One walk for all receivers: the slots below j are taken.
+        // One walk for all receivers, from the slot just filled on: it has looked at j slots, and
+        // remembers which f of them it filled. Where the slots end first it is 13: what it filled
+        // it empties again, and a freed slot holds what it held.
+        let mut j: usize = 0;
         if let Sent::One(m) = sent {
+            let mut f: usize = 0;
             let mut h = acts::next_in(receivers, 0, s.n);
-            let mut j: usize = 0;
             while (h < s.n) & (j < SLOTS) {
                 let mut taken = true;
                 while (j < SLOTS) & taken {
@@ -154,12 +161,31 @@ fn put_script(run: &[u8], out: &mut [u8], from: usize, opened: Answered) -> usiz
                 }
                 if !taken {
                     let i = j - 1;
-                    let filled = acts::slot_to(m, h);
-                    slots[i] = filled;
-                    empty -= 1;
+                    let put = acts::slot_to(m, h);
+                    slots[i] = put;
+                    filled[f] = i;
+                    f += 1;
+                    h = acts::next_in(receivers, h + 1, s.n);
                 }
-                h = acts::next_in(receivers, h + 1, s.n);
             }
+            if h < s.n {
+                answer = REFUSED_FULL;
+                while 0 < f {
+                    f -= 1;
+                    let i = filled[f];
+                    slots[i] = Slot {
+                        content: Content::Empty,
+                    };
+                }
+                if freed < SLOTS {
+                    let held = former[freed];
+                    slots[freed] = held;
+                }
+            }
+        }
+        if (answer == DONE) & (who < n) {
+            let after = pending[who];
+            hosts[who] = after;
         }
         let place = w.applied + w.refused + 1;
         let mut end = lines::put_event_head(out, w.pos, place, record::kind_of(e), answer);

@@ -83,6 +83,13 @@ fn main() {
         b"release_after_next.run",
         b"a release that comes after its sender's next lease",
     );
+    // With every slot full, host 0 is handed the reply that makes its majority, and later the
+    // deciding vote: both deliveries are refused, the message stays in its slot, and the same one
+    // is delivered when there is room.
+    show(
+        b"no_room.run",
+        b"deliveries that end in 13, for want of room for what they send",
+    );
     // Events of an opened cell: each number that one can be refused by.
     show(b"answers.run", b"the answers 5 and 9 to 15");
     show(

@@ -3,7 +3,7 @@
 use mathlib.Core.Path.{_≡_, refl, ap, _∙_}
 use mathlib.Core.Bool.{Bool, true, false, cond}
 use mathlib.Core.List.{List, [], _∷_}
-use Prim.Native.Nat.{ℕ, zero, suc, _+_, _≤_, _<_}
+use Prim.Native.Nat.{ℕ, zero, suc, _≤_, _<_}
 use native.Mathlib.Omega.{arith}
 use lib.ListN.{length, getD, set, length-set}
 use lib.Seq.{getD-set-other}
@@ -20,7 +20,6 @@ use Rattle.slots.specs.declared.Content.{Content}
 use Rattle.slots.specs.declared.Slot.{Slot}
 use Rattle.slots.specs.Slots.{slotCount, emptySlot, slotWith, noMessages, isEmpty, contentOk}
 use Rattle.slots.specs.Slots.{slotOk, slotsOk, empties, lowest, placed, placedEach, freed}
-use Rattle.slots.specs.Parts.{slotAfter, gainedBy}
 
 -- ---- as many slots
 
@@ -49,29 +48,6 @@ freed-counts (s ∷ ss) (suc i) h = go (isEmpty (s .content)) (freed-counts ss i
         → 1 ≤ cond b (suc (empties (freed ss i))) (empties (freed ss i))
     go true p = omega arith
     go false p = p
-
--- what an event gains of its slot is counted with the empty slots before it
-pub gained-counts : (frees : Bool) (ss : List Slot) (i : ℕ) → i < length ss
-    → empties (set ss i (slotAfter frees (getD ss i emptySlot)))
-    ≡ gainedBy frees (getD ss i emptySlot .content) + empties ss
-unfolding slotAfter empties isEmpty gainedBy
-gained-counts frees [] i h = absurd (omega arith)
-gained-counts frees (s ∷ ss) zero h = go frees (s .content) s refl
-  where
-    go : (b : Bool) (t : Content) (x : Slot) → x .content ≡ t
-        → cond (isEmpty (cond b emptySlot x .content)) (suc (empties ss)) (empties ss)
-        ≡ gainedBy b t + cond (isEmpty t) (suc (empties ss)) (empties ss)
-    go true Content.Empty x e = omega arith
-    go true (Content.One m) x e = omega arith
-    go false Content.Empty x e = rw e (omega arith)
-    go false (Content.One m) x e = rw e (omega arith)
-gained-counts frees (s ∷ ss) (suc i) h =
-    go (isEmpty (s .content)) _ (gainedBy frees (getD ss i emptySlot .content)) _
-    (gained-counts frees ss i (omega arith))
-  where
-    go : (b : Bool) (x y z : ℕ) → x ≡ y + z → cond b (suc x) x ≡ y + cond b (suc z) z
-    go true x y z e = omega (arith, e)
-    go false x y z e = e
 
 -- an empty slot that is filled is one empty slot less
 pub filled-counts : (ss : List Slot) (i : ℕ) (m : Message) → i < length ss

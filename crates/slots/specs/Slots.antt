@@ -1,6 +1,6 @@
--- The messages under way: which slots are empty, the lowest of them, placing a message and freeing
--- a slot. Assumes nothing.
-use Prim.Native.Nat.{ℕ, suc}
+-- The messages under way: which slots are empty, the lowest of them, placing a message, how many
+-- slots that looks at, and freeing a slot. Assumes nothing.
+use Prim.Native.Nat.{ℕ, zero, suc}
 use mathlib.Core.Bool.{Bool, true, false, cond, _&&_, not}
 use mathlib.Core.List.{List, [], _∷_}
 use lib.Dec.{ltb, leb, eqb}
@@ -77,6 +77,14 @@ placedEach ss m (h ∷ hs) = placedEach (placed ss (addressedTo m h)) m hs
 -- 'receivers in rising order'
 abbrev pub placedTo : ℕ → List Slot → Message → ℕ → List Slot
 placedTo n ss m receivers = placedEach ss m (members n receivers)
+
+-- how many slots a walk looks at that fills k empty ones (02): up to the last that it fills, none
+-- for no message, and all of them where there are fewer than k
+unfoldable pub lookedFor : ℕ → List Slot → ℕ
+lookedFor zero ss = 0
+lookedFor (suc k) [] = 0
+lookedFor (suc k) (s ∷ ss) =
+    suc (cond (isEmpty (s .content)) (lookedFor k ss) (lookedFor (suc k) ss))
 
 -- a slot is emptied: it then equals one that was never used
 abbrev pub freed : List Slot → ℕ → List Slot

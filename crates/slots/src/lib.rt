@@ -1,10 +1,10 @@
 // The messages under way: 96 slots, each empty or holding one message. Whether they are within
-// their limits, what an event leaves of the slot that it is about, and a turn of each of the two
-// walks that count empty slots and place a message to a set of receivers.
+// their limits, what an event leaves of the slot that it is about, and a turn of the walk that
+// places a message to a set of receivers.
 ghost use mathlib.Core.Path.{_≡_};
-ghost use Prim.Native.Nat.{_<_, _-_, _^_};
+ghost use Prim.Native.Nat.{_<_};
 ghost use Rattle.slots.specs.Slots.{isEmpty, contentOk, slotsOk, noMessages};
-ghost use Rattle.slots.specs.Parts.{slotAfter, gainedBy, countedWith, turnOf};
+ghost use Rattle.slots.specs.Parts.{slotAfter, turnOf};
 use base::DONE;
 use message::Message;
 use message::Sizes;
@@ -23,12 +23,13 @@ pub struct Slot {
     pub content: Content,
 }
 
-// What a turn of the walk that places leaves: what its slot holds, whose turn it is next, and which
-// slot's.
+// What a turn of the walk that places leaves: what its slot holds, whose turn it is next and which
+// slot's, and 1 where it filled the slot, else 0.
 pub struct Turn {
     pub slot: Slot,
     pub host: u8,
     pub at: usize,
+    pub fills: usize,
 }
 
 // Whether a slot holds nothing.
@@ -89,34 +90,8 @@ pub fn slot_after(frees: bool, held: Slot) -> Slot
     held
 }
 
-// By how many the empty slots grow by that, for 13: by one where a slot that held a message is
-// freed.
-pub fn gained_by(frees: bool, content: Content) -> usize
-    ensures { λ r. ⌜ r ≡ gainedBy frees content ⌝ }
-{
-    if is_empty(content) {
-        return 0;
-    }
-    if frees {
-        return 1;
-    }
-    0
-}
-
-// The walk that counts: one more where this slot is empty.
-pub fn counted_with(count: usize, held: Slot) -> usize
-    requires { ⌜ count < 2 ^ 64 - 1 ⌝ }
-    ensures { λ r. ⌜ r ≡ countedWith count held ⌝ }
-{
-    let content = held.content;
-    if is_empty(content) {
-        return count + 1;
-    }
-    count
-}
-
 // The walk that places, at host h and slot j: a host that is no receiver is passed over, and so is
-// a slot that is taken.
+// a slot that is taken. From a slot that is filled it goes on to the next.
 pub fn turn_of(m: Message, receivers: u16, h: u8, j: usize, held: Slot) -> Turn
     requires { ⌜ (h < 16) × (j < 96) ⌝ }
     ensures { λ r. ⌜ r ≡ turnOf m receivers h j held ⌝ }
@@ -126,6 +101,7 @@ pub fn turn_of(m: Message, receivers: u16, h: u8, j: usize, held: Slot) -> Turn
             slot: held,
             host: h + 1,
             at: j,
+            fills: 0,
         };
     }
     let content = held.content;
@@ -134,14 +110,17 @@ pub fn turn_of(m: Message, receivers: u16, h: u8, j: usize, held: Slot) -> Turn
             slot: held,
             host: h,
             at: j + 1,
+            fills: 0,
         };
     }
     let addressed = message::addressed_to(m, h);
+    let next = j + 1;
     Turn {
         slot: Slot {
             content: Content::One(addressed),
         },
         host: h + 1,
-        at: j + 1,
+        at: next,
+        fills: 1,
     }
 }

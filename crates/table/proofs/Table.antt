@@ -1,5 +1,5 @@
--- The joint table holds, and so do the runs in which a holder is named and the orders of refusals:
--- each entry is what the definitions compute. Assumes nothing.
+-- The joint table holds, and so do the runs in which a holder is named, the orders of refusals and
+-- the counts of slots: each entry is what the definitions compute. Assumes nothing.
 use mathlib.Core.Path.{refl}
 use lib.Count.{ones, onesIn}
 use Rattle.base.specs.Refusals.{firstOf, testsIn, failsAt}
@@ -33,18 +33,20 @@ use Rattle.host.specs.Steps.{receiveRefusal, receiveOf}
 use Rattle.places.specs.Places.{placeOk, stateAtOk, placesOk, statesOk, clocksOk, newHost, eachHost}
 use Rattle.places.specs.Places.{advancesRefusal}
 use Rattle.slots.specs.Slots.{isEmpty, contentOk, slotsOk, empties, lowest, placed, placedEach}
+use Rattle.slots.specs.Slots.{lookedFor}
 use Rattle.cell.specs.CellLimits.{cellOk}
 use Rattle.cell.specs.Events.{messagesIn, sentTo, stepped, openingRefusal, openedWith, openingOf}
 use Rattle.cell.specs.Events.{advanceAllRefusal, advancedAll, advancedOne, advanceOneRefusal}
 use Rattle.cell.specs.Events.{startAtRefusal, deliverFull, deliverRefusal, delivered, loseRefusal}
 use Rattle.cell.specs.Events.{repeatRefusal, repeated, restartAtRefusal, releaseAtRefusal}
-use Rattle.cell.specs.Events.{refusalOf, afterOf, eventOf}
+use Rattle.cell.specs.Events.{deliverLooked, refusalOf, afterOf, placingOf, lookedOf, eventOf}
 use Rattle.cell.specs.Runs.{run, answers}
 use Rattle.table.specs.Table.{Table}
 use Rattle.table.specs.NotEmpty.{NotEmpty}
 use Rattle.table.specs.RefusalOrders.{RefusalOrders}
+use Rattle.table.specs.LookedAt.{LookedAt, lookedIn}
 
-computed : Table × NotEmpty × RefusalOrders
+computed : Table × NotEmpty × RefusalOrders × LookedAt
 unfolding frameOf writeAnswer framesIn framesOf answerTo handedNumbers handedAnswer handedAnswerTo
     ones onesIn firstOf le numberAt total numbersAt packed isMajority membersFrom lastTick lastEnd
     isAbove knownKind isResponse numbersOf messageOf addressedTo partyFits faultOf partyFitsTo
@@ -62,7 +64,8 @@ unfolding frameOf writeAnswer framesIn framesOf answerTo handedNumbers handedAns
     messagesIn sentTo stepped openingRefusal newHost openedWith openingOf eachHost advancesRefusal
     advanceAllRefusal advancedAll advancedOne advanceOneRefusal startAtRefusal deliverFull
     deliverRefusal delivered loseRefusal repeatRefusal repeated restartAtRefusal releaseAtRefusal
-    refusalOf afterOf eventOf run answers every allOf
+    refusalOf afterOf lookedFor deliverLooked placingOf lookedOf lookedIn eventOf run answers every
+    allOf
 computed = (
   record {
     P1 = refl;
@@ -112,6 +115,15 @@ computed = (
     host-release = refl;
     host-message = refl;
   },
+  record {
+    example-looks = refl;
+    last-filled = refl;
+    all-looked = refl;
+    put-back = refl;
+    freed-taken = refl;
+    nothing-placed = refl;
+    otherwise-refused = refl;
+  },
 )
 
 pub table : Table
@@ -122,3 +134,6 @@ not-empty = computed .1
 
 pub refusal-orders : RefusalOrders
 refusal-orders = computed .2
+
+pub looked-at : LookedAt
+looked-at = computed .3

@@ -1,7 +1,7 @@
 -- `apply_within` is `eventOf` of a cell within its limits: an advance of all walks the hosts; any
--- other event is the change that was found, refused or committed by the laws of `change`'s tables.
+-- other event is refused or committed by `change`'s tables, and 13 undoes the walk that places.
 use Prim.Native.Nat.{ℕ, _≤_, _<_, _-_, _+_}
-use mathlib.Core.Path.{_≡_, refl, sym, ap, _∙_}
+use mathlib.Core.Path.{_≡_, refl, sym, ap, subst, _∙_}
 use mathlib.Core.Bool.{Bool, true, false, _&&_}
 use mathlib.Core.List.{List}
 use mathlib.Core.Logic.{_⊎_, inl, inr, ⊎-elim}
@@ -9,32 +9,39 @@ use native.Mathlib.Omega.{arith}
 use borrow.Author.Needs.{needs}
 use borrow.Author.Tests.{ltb-true, ltb-false, not-true, not-false}
 use lib.Dec.{ltb}
-use lib.ListN.{length, set, drop, length-set}
+use lib.ListN.{length, getD, set, length-set}
+use lib.Seq.{set-set, set-getD}
 use Rattle.base.proofs.Lists.{length-mapped}
 use Rattle.base.proofs.Tests.{both}
 use Rattle.state.proofs.StateLimits.{SettingsIn}
+use Rattle.quorum.specs.Sets.{members}
+use Rattle.message.specs.declared.Message.{Message}
+use Rattle.host.specs.declared.Host.{Host}
+use Rattle.host.specs.declared.Sent.{Sent}
 use Rattle.places.proofs.Walks.{Advancing, advancing-first, advancing-refused}
 use Rattle.places.proofs.Walks.{advancing-next, advancing-last}
 use Rattle.slots.specs.declared.Slot.{Slot}
-use Rattle.slots.specs.Slots.{empties, placedTo}
-use Rattle.slots.proofs.Laws.{gained-counts}
-use Rattle.slots.proofs.Walks.{counted-turn, empties-end}
-use Rattle.slots.proofs.Walks.{Placing, WalksOn, placing-first, placing-turn, placing-last}
+use Rattle.slots.specs.Slots.{emptySlot, placedEach, lookedFor}
+use Rattle.slots.specs.Parts.{emptied}
+use Rattle.slots.proofs.Walks.{Placing, WalksOn, placing-first, placing-turn}
+use Rattle.slots.proofs.Walks.{Fits, Ends, placing-done, placing-ended, emptied-on, emptied-none}
 use Rattle.cell.specs.declared.Answered.{Answered}
 use Rattle.cell.specs.declared.Cell.{Cell}
 use Rattle.cell.specs.CellLimits.{hostAt, withHost, contentAt, clocksNear}
-use Rattle.cell.specs.Events.{answeredWith, cellOf, withSlots, messagesIn, advancedAll}
+use Rattle.cell.specs.Events.{answeredWith, cellOf, withSlots, advancedAll}
 use Rattle.cell.specs.Claims.{Sized}
 use Rattle.cell.proofs.CellLimits.{n-of}
+use Rattle.cell.proofs.Looked.{Counted}
 use Rattle.change.specs.declared.Change.{Change}
 use Rattle.change.specs.Parts.{isAll, hostOf, changeOf, slotsAfter}
 use Rattle.change.proofs.Tables.{target-small, all-refused, all-done}
 use Rattle.change.proofs.Tables.{Found, slot-refused, host-refused, change-refused, still}
-use Rattle.change.proofs.Tables.{spread-refused, full-refused, committed-quiet, committed-sent}
+use Rattle.change.proofs.Tables.{spread-refused, found-counted, full-sent, committed-quiet}
+use Rattle.change.proofs.Tables.{committed-sent}
 use Rattle.event.proofs.apply_within.Statement.{statement}
 use Rattle.event.proofs.apply_within.Tie as tie
 
--- what the tests of the last two loops say, taken and left
+-- what the test of the walk that places says, taken and left
 first-below : (h n i : ℕ) → (ltb h n && ltb i 96) ≡ true → h < n
 first-below h n i e = ltb-true h n (both (ltb h n) (ltb i 96) e .0)
 
@@ -48,16 +55,11 @@ past h n i e = go (ltb h n) refl e
     go true p q = inr (ltb-false i 96 q)
     go false p q = inl (ltb-false h n p)
 
--- a count that ended early is large enough, and one that did not counted all
-counted-few : (need count k all rest : ℕ) → all ≡ count + rest → (96 ≤ k → rest ≡ 0)
-    → (need ≤ count) ⊎ (96 ≤ k) → count < need → all < need
-counted-few need count k all rest e f (inl b) l = absurd (omega arith)
-counted-few need count k all rest e f (inr b) l = omega (arith, f b)
-
--- an answer beside a cell whose parts are known
-beside : (x : ℕ) (a : Answered) (c : Cell) → a .settings ≡ c .settings → a .hosts ≡ c .hosts
-    → a .slots ≡ c .slots → answeredWith x (cellOf a) ≡ answeredWith x c
-beside x a c p q r = rw (← p, ← q, ← r)
+-- an answer whose count is known, and the parts of the cell beside it
+beside : (x k : ℕ) (a : Answered) (c : Cell) → a .looked ≡ k → a .settings ≡ c .settings
+    → a .hosts ≡ c .hosts → a .slots ≡ c .slots
+    → answeredWith x (a .looked) (cellOf a) ≡ answeredWith x k c
+beside x k a c o p q r = rw (← o, ← p, ← q, ← r)
 
 -- ---- the loops
 
@@ -68,25 +70,30 @@ Inv-loop a₀ s n d hosts₀ g₀ a hosts g =
 abbrev μ-loop : tie.MeasureT-loop
 μ-loop a₀ s n d hosts₀ g₀ a hosts g = n - g
 
--- the slots below k are counted
+-- the walk that places
 abbrev Inv-loop2 : tie.InvT-loop2
-Inv-loop2 a s n i held who found after sent receivers need count₀ k₀ count k =
-    (length (a .slots) ≡ 96)
-    × (k ≤ 96)
-    × (count₀ + empties (a .slots) ≡ count + empties (drop k (a .slots)))
-
-abbrev μ-loop2 : tie.MeasureT-loop2
-μ-loop2 a s n i held who found after sent receivers need count₀ k₀ count k = 96 - k
-
-abbrev Inv-loop3 : tie.InvT-loop3
-Inv-loop3 a₀ s n i who receivers need count k m h₀ j₀ a h j =
+Inv-loop2 a₀ s n i held who after m receivers filled₀ h₀ j₀ k₀ a filled h j k =
     (s .n ≤ 9)
     × (a .settings ≡ a₀ .settings)
     × (a .hosts ≡ a₀ .hosts)
-    × Placing (s .n) receivers m (a₀ .slots) (a .slots) h j
+    × (length filled ≡ 9)
+    × Placing (s .n) receivers m (a₀ .slots) (a .slots) filled h j k
+
+abbrev μ-loop2 : tie.MeasureT-loop2
+μ-loop2 a₀ s n i held who after m receivers filled₀ h₀ j₀ k₀ a filled h j k =
+    (s .n - h) + (96 - j)
+
+-- the slots that it filled, f of them still to be emptied again
+abbrev Inv-loop3 : tie.InvT-loop3
+Inv-loop3 a₀ n i held who receivers filled h j k f₀ a f =
+    (f ≤ k)
+    × (a .settings ≡ a₀ .settings)
+    × (a .hosts ≡ a₀ .hosts)
+    × (length (a .slots) ≡ 96)
+    × (emptied f filled (a .slots) ≡ emptied k filled (a₀ .slots))
 
 abbrev μ-loop3 : tie.MeasureT-loop3
-μ-loop3 a₀ s n i who receivers need count k m h₀ j₀ a h j = (s .n - h) + (96 - j)
+μ-loop3 a₀ n i held who receivers filled h j k f₀ a f = f
 
 -- a place of the tie, or a need, with these loops
 abbrev At : (tie.InvT-loop → tie.MeasureT-loop → tie.InvT-loop2 → tie.MeasureT-loop2
@@ -135,7 +142,7 @@ returns c =
     let ticks = t .before .before .before .ticks-of in
     let k = c .before .before .advance in
     let n = c .if2 .taken in
-    ap (λ (x : Answered). answeredWith (k .result .answer) (cellOf x)) (l .inv .0)
+    ap (λ (x : Answered). answeredWith (k .result .answer) (x .looked) (cellOf x)) (l .inv .0)
     ∙ all-refused
     (cellOf (z .args .t1)) (sized z) (z .pre) (z .args .e) _ (all a) (ticks .ensures) _ n
     (advancing-refused (l .inv .4) (t .loop-test .taken) (k .result) (k .ensures) n)
@@ -159,8 +166,16 @@ returns-2 c =
     let last = advancing-last (l .inv .4) (c .loop-test .left) in
     beside
     0
-    (record { answer = 0; settings = l .a .settings; hosts = l .hosts; slots = l .a .slots })
+    0
+    (record {
+      answer = 0;
+      looked = l .a .looked;
+      settings = l .a .settings;
+      hosts = l .hosts;
+      slots = l .a .slots;
+    })
     (advancedAll (cellOf (z .args .t1)) (ticks .result))
+    (ap (λ (x : Answered). x .looked) (l .inv .0))
     (ap (λ (x : Answered). x .settings) (l .inv .0))
     (last .1)
     (ap (λ (x : Answered). x .slots) (l .inv .0))
@@ -236,15 +251,9 @@ sizes c = sized (change-start c)
 
 -- ---- the change is done, and the clocks stay near
 
--- from where the clocks are tested to the change, and from the count to there
+-- from where the clocks are tested to the change
 abbrev changed : At tie.After-struct-known5 → At tie.After-change-of
 changed c = c .before .before .before .before .before
-
-abbrev tested : At tie.At-loop2 → At tie.Joined6
-tested c = c .before .before .before
-
-abbrev counted : At tie.At-loop2 → At tie.After-change-of
-counted c = changed (tested c .before)
 
 done : (c : At tie.After-struct-known5) → change (changed c) .answer ≡ 0
 done c = c .before .before .before .if5 .left
@@ -267,138 +276,247 @@ returns-6 c =
     spread-refused (found d) (in-slots d) (who-in d) (done p)
     (sym (k .ensures) ∙ not-true (k .result) (c .if7 .taken))
 
--- ---- the count
+-- ---- what is sent, if anything
 
--- the empty slots once the event's own slot is freed
-gains : (c : At tie.At-loop2) →
-    let d = counted c in
-    empties (slotsAfter (cell d) (slot d) (change d))
-    ≡ c .before .gained-by .result + empties (cell d .slots)
-gains c =
-    let d = counted c in
-    let ss = cell d .slots in
-    gained-counts (change d .frees) ss (slot d) (omega (arith, sizes d .slots, in-slots d))
-    ∙ ap (λ (x : ℕ). x + empties ss) (sym (c .before .gained-by .ensures))
+-- from where the event's own slot is known to the change
+abbrev kept : At tie.After-slot-after → At tie.After-change-of
+kept c = changed (c .before .before)
 
-loop2-again : At tie.Need-loop2-again
-loop2-again c =
-    let l = c .before .before .before in
-    let ss = cell (counted l) .slots in
-    let k = l .loop2 .k in
-    let long = l .loop2 .inv .0 in (
-      long,
-      omega (arith, slot-below),
-      l .loop2 .inv .2
-          ∙ sym (counted-turn ss k (omega (arith, slot-below, long)) (l .loop2 .count))
-          ∙ ap (λ (x : ℕ). x + empties (drop (k + 1) ss)) (sym (c .counted-with .ensures)),
-    )
-
-returns-7 : At tie.Need-returns-7
-returns-7 c =
-    let l = c .before .before in
-    let d = counted l in
-    let ss = cell d .slots in
-    let k = l .loop2 .k in
-    let needed = l .before .before .messages-in .ensures in
-    full-refused (found d) (in-slots d) (who-in d) (done (tested l .before)) (near (tested l))
-    (counted-few _ (l .loop2 .count) k _ (empties (drop k ss)) (gains l ∙ l .loop2 .inv .2)
-    (λ b. empties-end ss k (omega (arith, b, l .loop2 .inv .0)))
-    (rw (← needed) (past _ _ k (c .before .loop2-test .left)))
-    (rw (← needed) (c .if8 .taken)))
-
--- from where there are slots enough to the count, and from where the slot is freed to the change
-abbrev enough : At tie.Else8 → At tie.At-loop2
-enough c = c .before .before
-
-abbrev freed : At tie.After-slot-after → At tie.After-change-of
-freed c = counted (enough (c .before))
-
-fits : (c : At tie.Else8) →
-    let d = counted (enough c) in
-    messagesIn (change d .sent) (change d .receivers)
-    ≤ empties (slotsAfter (cell d) (slot d) (change d))
-fits c =
-    let l = enough c in
-    let needed = l .before .before .messages-in .ensures in
-    omega (arith, gains l, needed, l .loop2 .inv .2, c .if8 .left)
-
--- ---- the commit, and the walk that places
+-- the slots that the walk starts from
+starts : (c : At tie.After-slot-after) →
+    let d = kept c in
+    set (cell d .slots) (slot d) (c .slot-after .result) ≡ slotsAfter (cell d) (slot d) (change d)
+starts c =
+    let d = kept c in
+    ap (λ (x : Slot). set (cell d .slots) (slot d) x) (c .slot-after .ensures)
 
 -- the cell with the host after the change, and with these slots
 abbrev committed : At tie.After-change-of → List Slot → Cell
 committed c ss = withSlots (withHost (cell c) (who c) (change c .host)) ss
 
-returns-8 : At tie.Need-returns-8
-returns-8 c =
+returns-7 : At tie.Need-returns-7
+returns-7 c =
     let k = c .before .before in
-    let l = enough (k .before) in
-    let d = freed k in
-    ap (λ (x : Slot). answeredWith 0 (committed d (set (cell d .slots) (slot d) x)))
-    (k .slot-after .ensures)
+    let d = kept k in
+    ap (λ (ss : List Slot). answeredWith 0 0 (committed d ss)) (starts k)
     ∙ committed-quiet
     (found d)
     (in-slots d)
     (who-in d)
-    (done (tested l .before))
-    (near (tested l))
-    (fits (k .before))
+    (done (k .before .before))
+    (near (k .before))
     (c .enum-told .given .1)
 
-loop3-holds : At tie.Need-loop3-holds
-loop3-holds c =
+-- ---- the walk that places
+
+-- from the walk to where the message is known, to the event's own slot and to the change
+abbrev sending : At tie.At-loop2 → At tie.After-sent
+sending c = c .before .before
+
+abbrev own : At tie.At-loop2 → At tie.After-slot-after
+own c = sending c .before .before
+
+abbrev walking : At tie.At-loop2 → At tie.After-change-of
+walking c = kept (own c)
+
+-- from a turn of it to the walk
+abbrev turning : At tie.After-slot → At tie.At-loop2
+turning c = c .before .before .before
+
+loop2-holds : At tie.Need-loop2-holds
+loop2-holds c =
     let k = c .before .before .before in
-    let d = freed k in
+    let d = kept k in
     let n = cell d .settings .n in
     let m = c .before .sent .given .0 .0 in
     let ss = set (cell d .slots) (slot d) (k .slot-after .result) in
     let long = length-set (cell d .slots) (slot d) _ ∙ sizes d .slots in
-    (numbers (change-start d) .few, refl, refl, placing-first n (change d .receivers) m ss long)
+    let few = numbers (change-start d) .few in
+    (few, refl, refl, refl, placing-first n (change d .receivers) m ss _ long few)
 
--- from the walk to where the message is known, and from a turn of it to the walk
-abbrev sending : At tie.At-loop3 → At tie.After-sent
-sending c = c .before .before
-
-abbrev turning : At tie.After-slot2 → At tie.At-loop3
-turning c = c .before .before .before
-
--- the walk that places, one turn on
+-- one turn on
 turned : (c : At tie.After-turn-of) →
-    WalksOn (turning (c .before) .loop3 .inv .3) (c .turn-of .result)
+    WalksOn (turning (c .before) .loop2 .inv .4) (c .turn-of .result)
 turned c =
     let l = turning (c .before) in
-    let k = sending l .before .before in
-    let n = cell (freed k) .settings .n in
-    let h = l .loop3 .h in
-    let j = l .loop3 .j in
-    let t = c .before .before .if9 .taken in
-    let on = placing-turn (l .loop3 .inv .3) (first-below h n j t) (slot-below h n j t) in
+    let n = cell (walking l) .settings .n in
+    let h = l .loop2 .h in
+    let j = l .loop2 .j in
+    let t = c .before .before .if8 .taken in
+    let on = placing-turn (l .loop2 .inv .4) (first-below h n j t) (slot-below h n j t) in
     rw (c .turn-of .ensures) on
+
+-- fewer are filled than there are hosts
+spare : (c : At tie.After-slot) → turning c .loop2 .k < 9
+spare c =
+    let l = turning c .loop2 in
+    omega (arith, first-below, l .inv .0, l .inv .4 .few)
+
+loop2-again : At tie.Need-loop2-again
+loop2-again c =
+    let t = c .before .before in
+    let l = turning (t .before) .loop2 in (
+      l .inv .0,
+      l .inv .1,
+      l .inv .2,
+      length-set (l .filled) (l .k) (l .j) ∙ l .inv .3,
+      turned t .0,
+    )
+
+-- ---- where it ends
+
+-- from where the receivers are counted to the walk
+abbrev ended : At tie.After-size-of → At tie.At-loop2
+ended c = c .before .before .before
+
+abbrev message : At tie.At-loop2 → Message
+message c = sending c .sent .given .0 .0
+
+sent-is : (c : At tie.At-loop2) → change (walking c) .sent ≡ Sent.One (message c)
+sent-is c = sending c .sent .given .1
+
+-- to whom the message is placed
+abbrev to : At tie.At-loop2 → List ℕ
+to c = members (cell (walking c) .settings .n) (change (walking c) .receivers)
+
+size-is : (c : At tie.After-size-of) → c .size-of .result ≡ length (to (ended c))
+unfolding Counted
+size-is c =
+    let w = ended c in
+    let d = walking w in
+    c .size-of .ensures
+    ∙ subst
+    (λ (x : Sent). Counted (cell d .settings .n) x (change d .receivers))
+    (sent-is w)
+    (found-counted (found d))
+
+-- the slots that it starts from, as the tables have them
+abbrev from : At tie.At-loop2 → List Slot
+from c = let d = walking c in slotsAfter (cell d) (slot d) (change d)
+
+placing : (c : At tie.At-loop2) →
+    let d = walking c in
+    let l = c .loop2 in
+    Placing (cell d .settings .n) (change d .receivers) (message c) (from c) (l .a .slots)
+    (l .filled) (l .h) (l .j) (l .k)
+placing c =
+    let d = walking c in
+    let l = c .loop2 in
+    subst
+    (λ (ss : List Slot).
+    Placing (cell d .settings .n) (change d .receivers) (message c) ss (l .a .slots) (l .filled)
+    (l .h) (l .j) (l .k))
+    (starts (own c))
+    (l .inv .4)
+
+fits : (c : At tie.Else9) → Fits (placing (ended (c .before)))
+fits c =
+    placing-done (placing (ended (c .before))) (omega (arith, size-is (c .before), c .if9 .left))
+
+ends : (c : At tie.Then9) → Ends (placing (ended (c .before)))
+ends c =
+    let w = ended (c .before) in
+    let n = cell (walking w) .settings .n in
+    placing-ended (placing w)
+    (past (w .loop2 .h) n (w .loop2 .j) (c .before .before .if8 .left))
+    (omega (arith, size-is (c .before), c .if9 .taken))
+
+-- ---- 13 refuses, and the walk is undone
+
+-- from where it is undone to the walk
+abbrev undoing : At tie.At-loop3 → At tie.At-loop2
+undoing c = ended (c .before .before)
+
+-- the slot that is emptied next
+next-in : (c : At tie.In-loop3) →
+    getD (undoing (c .before) .loop2 .filled) (c .before .loop3 .f - 1) 0 < 96
+next-in c =
+    let w = undoing (c .before) .loop2 in
+    let l = c .before .loop3 in
+    w .inv .4 .within (l .f - 1) (omega (arith, l .inv .0, c .loop3-test .taken))
+
+loop3-again : At tie.Need-loop3-again
+loop3-again c =
+    let w = undoing (c .before) .loop2 in
+    let l = c .before .loop3 in (
+      omega (arith, l .inv .0),
+      l .inv .1,
+      l .inv .2,
+      length-set (l .a .slots) (getD (w .filled) (l .f - 1) 0) emptySlot ∙ l .inv .3,
+      emptied-on (l .f) (w .filled) (l .a .slots) (c .loop3-test .taken) ∙ l .inv .4,
+    )
+
+returns-8 : At tie.Need-returns-8
+returns-8 c =
+    let l = c .before .loop3 in
+    let w = undoing (c .before) in
+    let k = own w in
+    let d = walking w in
+    let end = ends (c .before .before) in
+    let held = getD (cell d .slots) (slot d) emptySlot in
+    let undone : l .a .slots ≡ from w =
+    sym (emptied-none (l .f) (w .loop2 .filled) (l .a .slots) (c .loop3-test .left))
+    ∙ l .inv .4 ∙ placing w .undone in
+    beside
+    13
+    (lookedFor (length (to w)) (from w))
+    (record {
+      answer = 13;
+      looked = w .loop2 .j;
+      settings = l .a .settings;
+      hosts = l .a .hosts;
+      slots = set (l .a .slots) (slot d) held;
+    })
+    (cell d)
+    (end .looked-is)
+    (l .inv .1 ∙ w .loop2 .inv .1)
+    (l .inv .2 ∙ w .loop2 .inv .2)
+    (ap (λ (ss : List Slot). set ss (slot d) held) undone
+    ∙ set-set (cell d .slots) (slot d) _ held
+    ∙ set-getD (cell d .slots) (slot d) emptySlot)
+    ∙ full-sent
+    (found d)
+    (in-slots d)
+    (who-in d)
+    (done (k .before .before))
+    (near (k .before))
+    (message w)
+    (sent-is w)
+    (end .too-few)
+
+-- ---- the commit
 
 returns-9 : At tie.Need-returns-9
 returns-9 c =
-    let w = c .before .before in
-    let l = w .loop3 in
-    let m = sending w .sent .given in
-    let k = sending w .before .before in
-    let p = enough (k .before) in
-    let d = freed k in
-    let n = cell d .settings .n in
-    let to = change d .receivers in
-    let ss = slotsAfter (cell d) (slot d) (change d) in
-    let placed : l .a .slots ≡ placedTo n ss (m .0 .0) to =
-    placing-last (l .inv .3) (past (l .h) n (l .j) (c .if9 .left))
-    ∙ ap (λ (y : Slot). placedTo n (set (cell d .slots) (slot d) y) (m .0 .0) to)
-    (k .slot-after .ensures) in
-    beside 0 (l .a) (committed d (placedTo n ss (m .0 .0) to)) (l .inv .1) (l .inv .2) placed
+    let w = ended (c .before) in
+    let l = w .loop2 in
+    let k = own w in
+    let d = walking w in
+    let end = fits c in
+    beside
+    0
+    (lookedFor (length (to w)) (from w))
+    (record {
+      answer = 0;
+      looked = l .j;
+      settings = l .a .settings;
+      hosts = set (l .a .hosts) (who d) (change d .host);
+      slots = l .a .slots;
+    })
+    (committed d (placedEach (from w) (message w) (to w)))
+    (end .looked-is)
+    (l .inv .1)
+    (ap (λ (hs : List Host). set hs (who d) (change d .host)) (l .inv .2))
+    (end .placed-is)
     ∙ committed-sent
     (found d)
     (in-slots d)
     (who-in d)
-    (done (tested p .before))
-    (near (tested p))
-    (fits (k .before))
-    (m .0 .0)
-    (m .1)
+    (done (k .before .before))
+    (near (k .before))
+    (message w)
+    (sent-is w)
+    (end .enough)
 
 pub apply-within-spec : {M : Type 1} → statement M
 apply-within-spec =
@@ -449,33 +567,46 @@ apply-within-spec =
     (numbers z .some, numbers z .few))
     returns-6
     (λ c κs. search needs)
-    (λ c κs. search needs)
-    (λ c. (sizes (changed (c .before .before .before)) .slots, omega arith, refl))
     (λ c. search needs)
-    (λ c. omega (arith, slot-below))
-    (λ c κs. omega (arith, first-below))
     (λ c. search needs)
-    (λ c. omega (arith, slot-below))
-    loop2-again
+    (λ c. search needs)
+    (λ c. let d = kept (c .before .before) in omega (arith, few d, sizes d .hosts))
+    (λ c. omega (arith, in-slots (kept (c .before .before))))
+    (λ c. let d = kept (c .before .before) in omega (arith, sizes d .slots, in-slots d))
     returns-7
-    (λ c. search needs)
-    (λ c. let d = counted (enough c) in omega (arith, few d, sizes d .hosts))
-    (λ c κs. search needs)
-    (λ c. omega (arith, in-slots (counted (enough (c .before)))))
-    (λ c. let d = counted (enough (c .before)) in omega (arith, sizes d .slots, in-slots d))
-    (λ c. search needs)
-    (λ c. search needs)
-    returns-8
-    loop3-holds
+    (λ c. omega (arith, in-slots (kept (c .before .before .before))))
+    (λ c. let d = kept (c .before .before .before) in omega (arith, sizes d .slots, in-slots d))
+    loop2-holds
     (λ c. search needs)
     (λ c. omega (arith, slot-below))
     (λ c κs.
-    let few = turning c .loop3 .inv .0 in
+    let few = turning c .loop2 .inv .0 in
     (omega (arith, first-below, few), omega (arith, slot-below)))
     (λ c. omega (arith, slot-below))
-    (λ c. omega (arith, slot-below, turning (c .before .before) .loop3 .inv .3 .long))
-    (λ c. turned (c .before) .1)
+    (λ c. omega (arith, slot-below, turning (c .before .before) .loop2 .inv .4 .long))
+    (λ c. omega (arith, spare (c .before .before)))
     (λ c.
-    let i = turning (c .before .before) .loop3 .inv in
-    (i .0, i .1, i .2, turned (c .before) .0))
+    let s = c .before .before in
+    omega (arith, spare s, turning s .loop2 .inv .3))
+    (λ c.
+    let t = c .before .before in
+    let l = turning (t .before) .loop2 in
+    omega (arith, l .inv .0, turned t .0 .few, turned t .0 .hosts))
+    (λ c. turned (c .before .before) .1)
+    loop2-again
+    (λ c κs. search needs)
+    (λ c. search needs)
+    (λ c. (omega arith, refl, refl, ended (c .before) .loop2 .inv .4 .long, refl))
+    (λ c. search needs)
+    (λ c. omega (arith, c .before .loop3 .inv .0))
+    (λ c. omega (arith, c .before .loop3 .inv .0))
+    (λ c. omega (arith, next-in c))
+    (λ c. omega (arith, next-in c, c .before .loop3 .inv .3))
+    (λ c. search needs)
+    loop3-again
+    (λ c. omega (arith, in-slots (walking (undoing (c .before)))))
+    (λ c. omega (arith, in-slots (walking (undoing (c .before))), c .before .loop3 .inv .3))
+    returns-8
+    (λ c. omega (arith, few (walking (ended (c .before)))))
+    (λ c. let d = walking (ended (c .before)) in omega (arith, few d, sizes d .hosts))
     returns-9)

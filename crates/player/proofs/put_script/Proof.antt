@@ -1,47 +1,48 @@
 -- `put_script` writes the lines of a run file's events, its stop and its counts, from an opened
 -- cell on. The walk's state is `Going`. An event is found by its act (`Acted`), committed by the
--- walks that move hosts and place messages, and its line is written by the walk over names.
+-- walks that move hosts and place messages (`Placing`), or put back where there is no room, and its
+-- line is written by the walk over names.
 use mathlib.Core.Path.{_≡_, refl, sym, ap, _∙_}
 use mathlib.Core.Bool.{Bool, true, false, _&&_}
-use mathlib.Core.Logic.{_⊎_, inl, inr, ⊎-elim}
+use mathlib.Core.Logic.{⊎-elim}
 use mathlib.Core.List.{List, [], _∷_}
-use Prim.Native.Nat.{ℕ, suc, _+_, _-_, _*_, _≤_, _<_}
+use Prim.Native.Nat.{ℕ, _+_, _-_, _*_, _≤_, _<_}
 use native.Mathlib.Nat.{le-refl}
 use native.Mathlib.Omega.{arith}
-use lib.Dec.{ltb, lit≤}
+use lib.Dec.{ltb, eqb, lit≤}
 use lib.ListN.{length, set, getD, length-set}
 use borrow.Author.Needs.{needs}
-use borrow.Author.Tests.{ltb-true, ltb-false, not-true, not-false}
+use borrow.Author.Tests.{ltb-true, ltb-false, lt-ltb, not-true, not-false}
 use Rattle.base.proofs.Tests.{both, told}
 use Rattle.quorum.specs.Sets.{isIn}
 use Rattle.message.specs.declared.Message.{Message}
-use Rattle.message.specs.Message.{lastTick, addressedTo}
+use Rattle.message.specs.Message.{lastTick}
 use Rattle.text.specs.Parts.{Put}
 use Rattle.text.proofs.Laws.{Todo, put-then, todo-begin, todo-step, todo-end}
 use Rattle.state.specs.declared.Settings.{Settings}
 use Rattle.state.proofs.StateLimits.{SettingsIn}
 use Rattle.host.specs.declared.Host.{Host}
-use Rattle.host.specs.declared.Sent.{Sent}
 use Rattle.host.specs.Steps.{advancedHost}
 use Rattle.host.proofs.HostLimits.{host-in}
 use Rattle.places.specs.Places.{blankHost, eachHost}
 use Rattle.places.proofs.Walks.{Span, span-first, span-next, span-order}
 use Rattle.places.proofs.Each.{each-above, each-next}
 use Rattle.slots.specs.declared.Slot.{Slot}
-use Rattle.slots.specs.Slots.{slotWith, empties}
-use Rattle.slots.proofs.Laws.{filled-counts}
-use Rattle.slots.proofs.Walks.{Placing, placing-first, placing-last}
+use Rattle.slots.specs.Slots.{emptySlot}
+use Rattle.slots.specs.Parts.{emptied}
+use Rattle.slots.proofs.Walks.{Placing, placing-first, emptied-on}
+use Rattle.cell.specs.declared.Answered.{Answered}
 use Rattle.cell.specs.declared.Cell.{Cell}
 use Rattle.cell.specs.declared.Event.{Event}
 use Rattle.cell.specs.CellLimits.{cellOk}
-use Rattle.cell.specs.Events.{answeredWith, eventOf, sentTo}
+use Rattle.cell.specs.Events.{answeredWith, eventOf}
 use Rattle.cell.specs.Claims.{Sized}
 use Rattle.cell.proofs.CellLimits.{cell-in, n-of}
 use Rattle.change.specs.Parts.{ticksOf}
-use Rattle.acts.specs.Parts.{watchedBy, nextIn}
+use Rattle.acts.specs.Parts.{watchedBy, nextIn, committed}
 use Rattle.acts.proofs.Acts.{Acted, movedHosts, clock-is, place-in, host-fits, index-in}
-use Rattle.acts.proofs.Placing.{next-is, placing-next, Vacant, Looking, looking-first}
-use Rattle.acts.proofs.Placing.{looking-next, found-fills, none-found}
+use Rattle.acts.proofs.Placing.{Next, next-is, placing-next, Vacant, Looking, looking-first}
+use Rattle.acts.proofs.Placing.{looking-next, found-fills}
 use Rattle.record.specs.declared.Record.{Record}
 use Rattle.record.specs.Record.{recordAt}
 use Rattle.record.proofs.Laws.{record-next, kind-small}
@@ -50,11 +51,11 @@ use Rattle.lines.specs.Lines.{namesFrom, namesText, eventHead, lineText}
 use Rattle.lines.proofs.Laws.{names-step, names-end}
 use Rattle.listing.specs.declared.Walk.{Walk}
 use Rattle.listing.specs.Parts.{walkedTo}
-use Rattle.player.proofs.Walking.{cellWith, Going, going-turn, going-end, empties-most}
-use Rattle.player.proofs.Walking.{watched-most}
+use Rattle.player.proofs.Walking.{cellWith, Going, going-turn, going-end, watched-most}
 use Rattle.player.proofs.Acting.{acted-same, found-all, found-host, found-advance}
 use Rattle.player.proofs.Acting.{found-handed, found-target, found-lost, found-repeated}
-use Rattle.player.proofs.Acting.{found-refused, found-delivered}
+use Rattle.player.proofs.Acting.{found-refused, found-delivered, left-quiet, left-placed}
+use Rattle.player.proofs.Acting.{left-back, left-as-is}
 use Rattle.player.proofs.put_script.Statement.{statement}
 use Rattle.player.proofs.put_script.Tie as tie
 
@@ -65,69 +66,85 @@ abbrev due : List Host → ℕ → ℕ → List ℕ
 due hosts n q = namesText (namesFrom hosts (n - q) q)
 
 abbrev Inv-loop2 : tie.InvT-loop2
-Inv-loop2 run out from s n hosts slots empty w e next watched high₀ low₀ g₀ high low g =
+Inv-loop2 run out from s n hosts slots pending former filled w e next watched high₀ low₀ g₀ high
+    low g =
     (1 ≤ g) × (g ≤ s .n) × Span (movedHosts (cellWith s hosts slots) e) (s .n) g low high
 
 abbrev μ-loop2 : tie.MeasureT-loop2
-μ-loop2 run out from s n hosts slots empty w e next watched high₀ low₀ g₀ high low g = watched - g
+μ-loop2 run out from s n hosts slots pending former filled w e next watched high₀ low₀ g₀ high low
+    g = watched - g
 
 -- the hosts below k have moved
 abbrev Inv-loop3 : tie.InvT-loop3
-Inv-loop3 run out from s n hosts₀ slots empty w e next watched high low g answer sent receivers
-    moving k₀ hosts k =
+Inv-loop3 run out from s n hosts₀ slots pending former filled w e next watched high low g answer
+    sent receivers moving who freed k₀ hosts k =
     (length hosts ≡ 9) × (k ≤ moving)
     × (hosts ≡ eachHost k (λ h. advancedHost h (ticksOf e)) hosts₀)
 
 abbrev μ-loop3 : tie.MeasureT-loop3
-μ-loop3 run out from s n hosts₀ slots empty w e next watched high low g answer sent receivers moving
-    k₀ hosts k = moving - k
+μ-loop3 run out from s n hosts₀ slots pending former filled w e next watched high low g answer sent
+    receivers moving who freed k₀ hosts k = moving - k
 
 -- wherever the walk that places began, the look goes on with it
 abbrev Inv-loop5 : tie.InvT-loop5
-Inv-loop5 run out from s n hosts slots empty w e next watched high low g answer receivers moving k m
-    h j₀ taken₀ j taken =
-    (start : List Slot) → Placing (s .n) receivers m start slots h j₀
-    → Looking (s .n) receivers m start slots h j taken
+Inv-loop5 run out from s n hosts slots pending former filled w e next watched high low g answer
+    receivers moving who freed k j₀ m f h taken₀ j taken =
+    (j₀ ≤ j)
+    × ((start : List Slot) → Placing (s .n) receivers m start slots filled h j₀ f → h < s .n
+    → isIn receivers h ≡ true → Looking (s .n) receivers m start slots filled h j f taken)
 
 abbrev μ-loop5 : tie.MeasureT-loop5
-μ-loop5 run out from s n hosts slots empty w e next watched high low g answer receivers moving k m h
-    j₀ taken₀ j taken = 96 - j
+μ-loop5 run out from s n hosts slots pending former filled w e next watched high low g answer
+    receivers moving who freed k j₀ m f h taken₀ j taken = 96 - j
 
 abbrev Inv-loop4 : tie.InvT-loop4
-Inv-loop4 run out from s n hosts slots₀ empty₀ w e next watched high low g answer receivers moving k
-    m h₀ j₀ slots empty h j =
-    (empties slots ≡ empty) × (h < s .n → isIn receivers h ≡ true)
-    × Placing (s .n) receivers m slots₀ slots h j
+Inv-loop4 run out from s n hosts slots₀ pending former filled₀ w e next watched high low g answer
+    receivers moving who freed k j₀ m f₀ h₀ slots filled j f h =
+    (length filled ≡ 9) × (h < s .n → isIn receivers h ≡ true)
+    × Placing (s .n) receivers m slots₀ slots filled h j f
 
 abbrev μ-loop4 : tie.MeasureT-loop4
-μ-loop4 run out from s n hosts slots₀ empty₀ w e next watched high low g answer receivers moving k m
-    h₀ j₀ slots empty h j = s .n - h
+μ-loop4 run out from s n hosts slots₀ pending former filled₀ w e next watched high low g answer
+    receivers moving who freed k j₀ m f₀ h₀ slots filled j f h = (s .n - h) + (96 - j)
+
+-- f of the slots that were filled are still to be emptied again
+abbrev Inv-loop6 : tie.InvT-loop6
+Inv-loop6 run out from s n hosts slots₀ pending former filled w e next watched high low g answer
+    receivers moving who freed k j f₀ h slots f =
+    (f ≤ f₀) × (length slots ≡ 96) × (emptied f filled slots ≡ emptied f₀ filled slots₀)
+
+abbrev μ-loop6 : tie.MeasureT-loop6
+μ-loop6 run out from s n hosts slots₀ pending former filled w e next watched high low g answer
+    receivers moving who freed k j f₀ h slots f = f
 
 -- each name takes 4 bytes at most
-abbrev Inv-loop6 : tie.InvT-loop6
-Inv-loop6 run out₀ from s n hosts slots empty w next watched high low g answer receivers moving k
-    place end₀ q₀ out end q =
+abbrev Inv-loop7 : tie.InvT-loop7
+Inv-loop7 run out₀ from s n hosts slots pending former filled w next watched high low g answer
+    receivers moving who freed k j place end₀ q₀ out end q =
     (length out ≡ length out₀) × (end + 4 * (n - q) ≤ end₀ + 4 * n)
     × Todo out end (due hosts n q) out₀ end₀ (due hosts n 0)
 
-abbrev μ-loop6 : tie.MeasureT-loop6
-μ-loop6 run out₀ from s n hosts slots empty w next watched high low g answer receivers moving k
-    place end₀ q₀ out end q = n - q
+abbrev μ-loop7 : tie.MeasureT-loop7
+μ-loop7 run out₀ from s n hosts slots pending former filled w next watched high low g answer
+    receivers moving who freed k j place end₀ q₀ out end q = n - q
 
 abbrev Inv-loop : tie.InvT-loop
-Inv-loop run out₀ from s n hosts₀ slots₀ empty₀ w₀ out hosts slots empty w =
-    (n ≡ s .n) × (empties slots ≡ empty)
+Inv-loop run out₀ from s n hosts₀ slots₀ pending₀ former₀ filled₀ w₀ out hosts slots pending former
+    filled w =
+    (n ≡ s .n) × (length pending ≡ 9) × (length former ≡ 96) × (length filled ≡ 9)
     × Going run out₀ from (cellWith s hosts₀ slots₀) out (cellWith s hosts slots) w
 
 abbrev μ-loop : tie.MeasureT-loop
-μ-loop run out₀ from s n hosts₀ slots₀ empty₀ w₀ out hosts slots empty w = length run - w .at
+μ-loop run out₀ from s n hosts₀ slots₀ pending₀ former₀ filled₀ w₀ out hosts slots pending former
+    filled w = length run - w .at
 
 -- a place of the tie, or a need, with these loops
 abbrev At : (tie.InvT-loop2 → tie.MeasureT-loop2 → tie.InvT-loop3 → tie.MeasureT-loop3
     → tie.InvT-loop5 → tie.MeasureT-loop5 → tie.InvT-loop4 → tie.MeasureT-loop4
-    → tie.InvT-loop6 → tie.MeasureT-loop6 → tie.InvT-loop → tie.MeasureT-loop → Type 0) → Type 0
+    → tie.InvT-loop6 → tie.MeasureT-loop6 → tie.InvT-loop7 → tie.MeasureT-loop7
+    → tie.InvT-loop → tie.MeasureT-loop → Type 0) → Type 0
 At place = place Inv-loop2 μ-loop2 Inv-loop3 μ-loop3 Inv-loop5 μ-loop5 Inv-loop4 μ-loop4 Inv-loop6
-    μ-loop6 Inv-loop μ-loop
+    μ-loop6 Inv-loop7 μ-loop7 Inv-loop μ-loop
 
 -- what the test of the look says, taken and left
 look-below : (j : ℕ) (t : Bool) → (ltb j 96 && t) ≡ true → j < 96
@@ -147,12 +164,12 @@ look-past j t q e = ltb-false j 96 (go (ltb j 96) t q e)
 first-below : (h n j : ℕ) → (ltb h n && ltb j 96) ≡ true → h < n
 first-below h n j e = ltb-true h n (both (ltb h n) (ltb j 96) e .0)
 
-past : (h n j : ℕ) → (ltb h n && ltb j 96) ≡ false → (n ≤ h) ⊎ (96 ≤ j)
-past h n j e = go (ltb h n) refl e
-  where
-    go : (b : Bool) → ltb h n ≡ b → (b && ltb j 96) ≡ false → (n ≤ h) ⊎ (96 ≤ j)
-    go true p q = inr (ltb-false j 96 q)
-    go false p q = inl (ltb-false h n p)
+slot-below : (h n j : ℕ) → (ltb h n && ltb j 96) ≡ true → j < 96
+slot-below h n j e = ltb-true j 96 (both (ltb h n) (ltb j 96) e .1)
+
+-- it ends with a receiver left where the slots have ended
+past : (h n j : ℕ) → h < n → (ltb h n && ltb j 96) ≡ false → 96 ≤ j
+past h n j b e = ltb-false j 96 (rw (lt-ltb h n b) at e)
 
 -- a line is its head, the names and the line's end
 line : {out out₁ out₂ out₃ : List ℕ} {pos end₀ end r : ℕ} (hosts : List Host)
@@ -191,14 +208,18 @@ moves-on f start hs k x e q b =
 falls : (k n : ℕ) → k < n → n - (k + 1) < n - k
 falls k n h = omega arith
 
--- and so does one that goes on to a later host
-further : (h n r x : ℕ) → x ≡ r → h + 1 ≤ r → h < n → n - x < n - h
-further h n r x e a b = omega arith
+-- and so does one that goes on to a later host, or to the last slot
+further : (h n r x i j : ℕ) → x ≡ r → h + 1 ≤ r → h < n → i ≤ j
+    → (n - x) + (96 - j) < (n - h) + (96 - i)
+further h n r x i j e a b l = omega arith
+
+ends-there : (h n i j : ℕ) → i < 96 → 96 ≤ j → (n - h) + (96 - j) < (n - h) + (96 - i)
+ends-there h n i j a b = omega arith
 
 -- ---- at the head of the loop
 
 abbrev begun : At tie.At-loop → At tie.Start
-begun c = c .before .before .before .before .before .before .before
+begun c = c .before .before .before .before .before .before .before .before .before
 
 abbrev given : At tie.At-loop → Settings
 given c = begun c .args .opened .settings
@@ -207,17 +228,13 @@ abbrev cell : At tie.At-loop → Cell
 cell c = cellWith (given c) (c .loop .hosts) (c .loop .slots)
 
 sized : (c : At tie.At-loop) → Sized (cell c)
-sized c = c .loop .inv .2 .sound .0
+sized c = c .loop .inv .4 .sound .0
 
 ok : (c : At tie.At-loop) → cellOk (cell c) ≡ true
-ok c = c .loop .inv .2 .sound .1
+ok c = c .loop .inv .4 .sound .1
 
 numbers : (c : At tie.At-loop) → SettingsIn (given c)
 numbers c = n-of (cell c) (ok c)
-
--- so many slots are empty at most
-few-empty : (c : At tie.At-loop) → c .loop .empty ≤ 96
-few-empty c = omega (arith, c .loop .inv .1, empties-most (c .loop .slots), sized c .slots)
 
 clock-early : (c : At tie.At-loop) (g : ℕ) → g < given c .n
     → getD (c .loop .hosts) g blankHost .clock ≤ lastTick
@@ -275,7 +292,7 @@ place-below : (c : At tie.After-place-of) →
     c .place-of .result < given (head (spanned (c .before .before .before .before))) .n
 place-below c =
     let l = head (spanned (c .before .before .before .before)) in
-    rw (c .place-of .ensures) (place-in (cell l) (sized l) (ok l) _ (l .loop .inv .1) _)
+    rw (c .place-of .ensures) (place-in (cell l) (sized l) (ok l) _)
 
 place-few : (c : At tie.After-place-of) → c .place-of .result < 9
 place-few c =
@@ -285,7 +302,7 @@ place-below2 : (c : At tie.After-place-of2) →
     c .place-of2 .result < given (head (spanned (c .before .before .before .before))) .n
 place-below2 c =
     let l = head (spanned (c .before .before .before .before)) in
-    rw (c .place-of2 .ensures) (place-in (cell l) (sized l) (ok l) _ (l .loop .inv .1) _)
+    rw (c .place-of2 .ensures) (place-in (cell l) (sized l) (ok l) _)
 
 place-few2 : (c : At tie.After-place-of2) → c .place-of2 .result < 9
 place-few2 c =
@@ -328,10 +345,9 @@ target-few c =
     omega (
       arith,
       c .target-in .ensures,
-      found-target (cell l) (sized l) (ok l) _ (l .loop .inv .1)
-          (event (watching (spanned (delivering (indexed c))))) _ (indexed c .slot-index .result)
-          (b .result)
-          (indexed c .slot-index .ensures) (b .ensures),
+      found-target (cell l) (sized l) (ok l) (event (watching (spanned (delivering (indexed c)))))
+          (l .loop .pending) (l .loop .former) (given l .n) refl _
+          (indexed c .slot-index .result) (b .result) (indexed c .slot-index .ensures) (b .ensures),
       numbers l .few,
     )
 
@@ -342,8 +358,9 @@ seen c = omega (arith, watched-is (spanned c), c .before .loop2-test .left)
 
 acted : (c : At tie.At-match2-came) →
     let k = watching (spanned (c .before)) in
-    Acted (cell (reading k)) (event k) (c .match2 .answer) (c .match2 .hosts) (c .match2 .slots)
-    (c .match2 .moving) (c .match2 .sent) (c .match2 .receivers) (c .match2 .empty)
+    Acted (cell (reading k)) (event k) (c .match2 .answer) (c .match2 .hosts) (c .match2 .pending)
+    (c .match2 .who) (c .match2 .slots) (c .match2 .former) (c .match2 .freed) (c .match2 .moving)
+    (c .match2 .sent) (c .match2 .receivers)
 acted c =
     let p = spanned (c .before) in
     let k = watching p in
@@ -352,57 +369,89 @@ acted c =
     let d = cell l in
     let z = sized l in
     let o = ok l in
-    let m = l .loop .inv .1 in
     let e = event k in
+    let ps = l .loop .pending in
+    let fs = l .loop .former in
+    let n = given l .n in
     let v = p .loop2 .inv in
     let s = seen (c .before) in
     ⊎-elim
     (λ w.
     acted-same
-    (found-all d z o _ m e (told a (w .1 .given .1)) _ _ _ _ (w .2 .result) (w .3 .result) refl s
-    (v .1) (v .2)
-    (w .2 .ensures) (w .3 .ensures))
-    (w .4) (w .5) (w .6) (w .7) (w .8) (w .9) (w .10))
+    (found-all d z o e ps fs n refl (told a (w .1 .given .1)) _ _ _ (w .2 .result) (w .3 .result) s
+    (v .1) (v .2) (w .2 .ensures) (w .3 .ensures))
+    (w .4) (w .5) (w .6) (w .7) (w .8) (w .9) (w .10) (w .11) (w .12) (w .13))
     (⊎-elim
     (λ w.
     acted-same
-    (found-host d z o _ m e _ (told a (w .1 .given .1)) _ _ _ _ (w .3 .result) (w .5 .result) refl
-    s (v .1) (v .2)
-    (w .3 .ensures) (w .5 .ensures))
-    (w .7) (w .8) (w .9) (w .10) (w .11) (w .12) (w .13))
+    (found-host d z o e ps fs n refl _ (told a (w .1 .given .1)) (w .3 .result) (w .5 .result)
+    (l .loop .inv .1) (w .3 .ensures) (w .5 .ensures))
+    (w .7) (w .8) (w .9) (w .10) (w .11) (w .12) (w .13) (w .14) (w .15) (w .16))
     (⊎-elim
     (λ w.
     acted-same
-    (found-delivered d z o _ m e _ (w .3 .result) (w .5 .result) (w .3 .ensures) (w .5 .ensures)
-    (told a (w .1 .given .1)) (w .6 .result) (w .8 .result) (w .9 .result) (w .6 .ensures)
-    (w .8 .ensures) (w .9 .ensures) (w .10 .taken))
-    (w .12) (w .13) (w .14) (w .15) (w .16) (w .17) (w .18))
+    (found-delivered d z o e ps fs n refl _ (w .3 .result) (w .5 .result) (w .3 .ensures)
+    (w .5 .ensures) (told a (w .1 .given .1)) (w .6 .result) (w .8 .result) (w .6 .ensures)
+    (w .8 .ensures) (l .loop .inv .1) (l .loop .inv .2) (w .9 .taken))
+    (w .11) (w .12) (w .13) (w .14) (w .15) (w .16) (w .17) (w .18) (w .19) (w .20))
     (⊎-elim
     (λ w.
     acted-same
-    (found-refused d z o _ m e _ (w .3 .result) (w .5 .result) (w .3 .ensures) (w .5 .ensures)
-    (told a (w .1 .given .1)) (w .6 .result) (w .8 .result) (w .9 .result) (w .6 .ensures)
-    (w .8 .ensures) (w .9 .ensures) (w .10 .left))
-    (w .11) (w .12) (w .13) (w .14) (w .15) (w .16) (w .17))
+    (found-refused d z o e ps fs n refl _ (w .3 .result) (w .5 .result) (w .3 .ensures)
+    (w .5 .ensures) (told a (w .1 .given .1)) (w .6 .result) (w .8 .result) (w .6 .ensures)
+    (w .8 .ensures) (w .9 .left))
+    (w .10) (w .11) (w .12) (w .13) (w .14) (w .15) (w .16) (w .17) (w .18) (w .19))
     (⊎-elim
     (λ w.
     acted-same
-    (found-lost d z o _ m e _ (w .3 .result) (w .5 .result) (w .3 .ensures) (w .5 .ensures)
-    (told a (w .1 .given .1)) (w .6 .result) (w .8 .result) (w .7 .result) (w .6 .ensures)
-    (w .7 .ensures) (w .8 .ensures))
-    (w .9) (w .10) (w .11) (w .12) (w .13) (w .14) (w .15))
+    (found-lost d z o e ps fs n refl _ (w .3 .result) (w .5 .result) (w .3 .ensures)
+    (w .5 .ensures) (told a (w .1 .given .1)) (w .6 .result) (w .7 .result) (w .6 .ensures)
+    (w .7 .ensures))
+    (w .8) (w .9) (w .10) (w .11) (w .12) (w .13) (w .14) (w .15) (w .16) (w .17))
     (⊎-elim
     (λ w.
     acted-same
-    (found-repeated d z o _ m e _ (w .3 .result) (w .5 .result) (w .3 .ensures) (w .5 .ensures)
-    (told a (w .1 .given .1)) (w .6 .result) (w .8 .result) (w .9 .result) (w .7 .result)
-    (w .6 .ensures) (w .7 .ensures) (w .8 .ensures) (w .9 .ensures))
-    (w .10) (w .11) (w .12) (w .13) (w .14) (w .15) (w .16))
+    (found-repeated d z o e ps fs n refl _ (w .3 .result) (w .5 .result) (w .3 .ensures)
+    (w .5 .ensures) (told a (w .1 .given .1)) (w .6 .result) (w .8 .result) (w .9 .result)
+    (w .7 .result) (w .6 .ensures) (w .7 .ensures) (w .8 .ensures) (w .9 .ensures))
+    (w .10) (w .11) (w .12) (w .13) (w .14) (w .15) (w .16) (w .17) (w .18) (w .19))
     (λ w.
     acted-same
-    (found-advance d z o _ m e _ (told a (w .1 .given .1)) _ _ _ _ (w .3 .result) (w .5 .result)
-    refl s (v .1) (v .2) (w .3 .ensures) (w .5 .ensures))
-    (w .7) (w .8) (w .9) (w .10) (w .11) (w .12) (w .13)))))))
+    (found-advance d z o e ps fs n refl _ (told a (w .1 .given .1)) _ _ _ (w .3 .result)
+    (w .5 .result) s (v .1) (v .2) (w .3 .ensures) (w .5 .ensures))
+    (w .7) (w .8) (w .9) (w .10) (w .11) (w .12) (w .13) (w .14) (w .15) (w .16)))))))
+    (c .match2 .came)
+
+-- a place of the nine, and a slot of the 96, is stored to or left
+kept-long : {A : Type 0} (n : ℕ) (xs ys : List A) (i : ℕ) (x : A) → length xs ≡ n → ys ≡ set xs i x
+    → length ys ≡ n
+kept-long n xs ys i x l e = ap length e ∙ length-set xs i x ∙ l
+
+same-long : {A : Type 0} (n : ℕ) (xs ys : List A) → length xs ≡ n → ys ≡ xs → length ys ≡ n
+same-long n xs ys l e = ap length e ∙ l
+
+pending-long : (c : At tie.At-match2-came) → length (c .match2 .pending) ≡ 9
+pending-long c =
+    let l = head (spanned (c .before)) .loop in
+    let p = l .inv .1 in
+    ⊎-elim (λ w. same-long 9 _ _ p (w .6))
+    (⊎-elim (λ w. kept-long 9 (l .pending) _ _ _ p (w .9))
+    (⊎-elim (λ w. kept-long 9 (l .pending) _ _ _ p (w .13))
+    (⊎-elim (λ w. same-long 9 _ _ p (w .12))
+    (⊎-elim (λ w. same-long 9 _ _ p (w .10))
+    (⊎-elim (λ w. same-long 9 _ _ p (w .12)) (λ w. same-long 9 _ _ p (w .9)))))))
+    (c .match2 .came)
+
+former-long : (c : At tie.At-match2-came) → length (c .match2 .former) ≡ 96
+former-long c =
+    let l = head (spanned (c .before)) .loop in
+    let p = l .inv .2 in
+    ⊎-elim (λ w. same-long 96 _ _ p (w .7))
+    (⊎-elim (λ w. same-long 96 _ _ p (w .10))
+    (⊎-elim (λ w. kept-long 96 (l .former) _ _ _ p (w .14))
+    (⊎-elim (λ w. kept-long 96 (l .former) _ _ _ p (w .13))
+    (⊎-elim (λ w. same-long 96 _ _ p (w .11))
+    (⊎-elim (λ w. same-long 96 _ _ p (w .13)) (λ w. same-long 96 _ _ p (w .10)))))))
     (c .match2 .came)
 
 -- ---- the walk that moves hosts
@@ -444,14 +493,14 @@ placing c = moved (sending (c .before))
 abbrev placer : At tie.At-loop4 → At tie.At-loop
 placer c = head (spanned (placing c .before))
 
+-- the message that is placed
+abbrev message : At tie.At-loop4 → Message
+message c = c .before .before .before .sent .given .0 .0
+
 receiver : (c : At tie.Then2) → c .before .before .loop4 .h < given (placer (c .before .before)) .n
 receiver c =
     let l = c .before .before in
     first-below (l .loop4 .h) (given (placer l) .n) (l .loop4 .j) (c .if2 .taken)
-
--- the message that is placed
-abbrev message : At tie.At-loop4 → Message
-message c = c .before .before .before .sent .given .0 .0
 
 -- the look, from where the walk that places stands
 abbrev looked : At tie.At-loop5 → At tie.At-loop4
@@ -460,14 +509,19 @@ looked c = c .before .before .before
 looks : (c : At tie.At-loop5) →
     let l = looked c in
     Looking (given (placer l) .n) (placing l .match2 .receivers) (message l)
-    (placing l .match2 .slots) (l .loop4 .slots) (l .loop4 .h) (c .loop5 .j) (c .loop5 .taken)
-looks c = c .loop5 .inv (placing (looked c) .match2 .slots) (looked c .loop4 .inv .2)
+    (placing l .match2 .slots) (l .loop4 .slots) (l .loop4 .filled) (l .loop4 .h) (c .loop5 .j)
+    (l .loop4 .f) (c .loop5 .taken)
+looks c =
+    let l = looked c in
+    let b = receiver (c .before) in
+    c .loop5 .inv .1 (placing l .match2 .slots) (l .loop4 .inv .2) b (l .loop4 .inv .1 b)
 
 -- the slot that was found
 vacant : (c : At tie.Then3) →
     let l = looked (c .before .before) in
     Vacant (given (placer l) .n) (placing l .match2 .receivers) (message l)
-    (placing l .match2 .slots) (l .loop4 .slots) (l .loop4 .h) (c .before .before .loop5 .j)
+    (placing l .match2 .slots) (l .loop4 .slots) (l .loop4 .filled) (l .loop4 .h)
+    (c .before .before .loop5 .j) (l .loop4 .f)
 vacant c =
     let p = c .before .before in
     looks p .found (not-true (p .loop5 .taken) (c .if3 .taken))
@@ -475,144 +529,200 @@ vacant c =
 vacant-few : (c : At tie.Then3) → c .before .before .loop5 .j - 1 < 96
 vacant-few c = vacant c .there
 
--- it is one of the empty slots
-vacant-counts : (c : At tie.Then3) (m : Message) →
+-- there is a place to remember it
+spare : (c : At tie.Then3) → looked (c .before .before) .loop4 .f < 9
+spare c =
     let l = looked (c .before .before) in
-    suc (empties (set (l .loop4 .slots) (c .before .before .loop5 .j - 1) (slotWith m)))
-    ≡ l .loop4 .empty
-vacant-counts c m =
-    let l = looked (c .before .before) in
-    filled-counts (l .loop4 .slots) (c .before .before .loop5 .j - 1) m
-    (omega (arith, l .loop4 .inv .2 .long, vacant-few c)) (vacant c .empty)
-    ∙ l .loop4 .inv .0
+    omega (
+      arith,
+      l .loop4 .inv .2 .few,
+      receiver (c .before .before .before),
+      numbers (placer l) .few,
+    )
 
--- the walk that places, after the turn of a receiver
-turned : (c : At tie.Joined3) →
-    let p = c .before .before in
-    let l = looked p in
-    (empties (c .if3 .slots) ≡ c .if3 .empty)
-    × Placing (given (placer l) .n) (placing l .match2 .receivers) (message l)
-    (placing l .match2 .slots) (c .if3 .slots)
-    (nextIn (placing l .match2 .receivers) (l .loop4 .h + 1) (given (placer l) .n)) (p .loop5 .j)
-turned c =
-    let p = c .before .before in
-    let l = looked p in
-    let a = receiver (p .before) in
-    let ss = l .loop4 .slots in
-    let i = p .loop5 .j - 1 in
-    ⊎-elim
-    (λ w.
-    let t : At tie.Then3 = record { before = c .before; if3 = w .0 } in
-    let x = addressedTo (message l) (l .loop4 .h) in
-    let q : c .if3 .slots ≡ set ss i (slotWith x) =
-    w .3 ∙ ap (λ (y : Slot). set ss i y) (w .1 .ensures) in
-    let left : empties (set ss i (slotWith x)) ≡ l .loop4 .empty - 1 =
-    omega (arith, vacant-counts t x) in (
-      ap empties q ∙ left ∙ sym (w .4),
-      rw q (found-fills a (l .loop4 .inv .1 a) (vacant t)),
-    ))
-    (λ w.
-    let on = not-false (p .loop5 .taken) (w .0 .left) in
-    let end = look-past (p .loop5 .j) (p .loop5 .taken) on (c .before .loop5-test .left) in (
-      ap empties (w .1) ∙ l .loop4 .inv .0 ∙ sym (w .2),
-      rw (w .1) (none-found a end (looks p .on on)),
-    ))
-    (c .if3 .came)
+-- the receiver after this one
+following : (c : At tie.Then2) →
+    let l = c .before .before in
+    let to = placing l .match2 .receivers in
+    let n = given (placer l) .n in
+    Next to (l .loop4 .h + 1) n (nextIn to (l .loop4 .h + 1) n)
+following c =
+    let l = c .before .before in
+    next-is (placing l .match2 .receivers) (l .loop4 .h + 1) (given (placer l) .n)
+    (omega (arith, receiver c))
 
-abbrev placer3 : At tie.At-match3-came → At tie.At-loop
-placer3 c = head (spanned (moved (c .before) .before))
+-- ---- the slots have ended first
 
-placed : (c : At tie.At-match3-came) →
-    let j = moved (c .before) .match2 in
-    (c .match3 .slots ≡ sentTo (given (placer3 c) .n) (j .slots) (j .sent) (j .receivers))
-    × (empties (c .match3 .slots) ≡ c .match3 .empty)
-unfolding sentTo
-placed c =
-    let j = moved (c .before) .match2 in
-    let n = given (placer3 c) .n in
-    ⊎-elim
-    (λ w. (
-      w .7 ∙ placing-last (w .4 .inv .2) (past (w .4 .h) n (w .4 .j) (w .6 .left))
-          ∙ sym (ap (λ (x : Sent). sentTo n (j .slots) x (j .receivers)) (w .1 .given .1)),
-      ap empties (w .7) ∙ w .4 .inv .0 ∙ sym (w .8),
-    ))
-    (λ w. (
-      w .2 ∙ sym (ap (λ (x : Sent). sentTo n (j .slots) x (j .receivers)) (w .1 .given .1)),
-      ap empties (w .2) ∙ acted (moved (c .before)) .count ∙ sym (w .3),
-    ))
-    (c .match3 .came)
+-- from where a receiver is left to the walk that places
+abbrev ended : At tie.Then4 → At tie.At-loop4
+ended c = c .before .before .before .before
+
+left-over : (c : At tie.Then4) → (ended c .loop4 .h < given (placer (ended c)) .n)
+left-over c = c .if4 .taken
+
+no-slots : (c : At tie.Then4) → 96 ≤ ended c .loop4 .j
+no-slots c =
+    let l = ended c in
+    past (l .loop4 .h) (given (placer l) .n) (l .loop4 .j) (left-over c)
+    (c .before .before .if2 .left)
+
+-- the slot that is emptied next
+emptying : (c : At tie.In-loop6) →
+    let l = ended (c .before .before) in
+    getD (l .loop4 .filled) (c .before .loop6 .f - 1) 0 < 96
+emptying c =
+    let l = ended (c .before .before) in
+    let k = c .before .loop6 in
+    l .loop4 .inv .2 .within (k .f - 1) (omega (arith, k .inv .0, c .loop6-test .taken))
+
+emptying-few : (c : At tie.In-loop6) → c .before .loop6 .f - 1 < 9
+emptying-few c =
+    let l = ended (c .before .before) in
+    omega (
+      arith,
+      c .before .loop6 .inv .0,
+      l .loop4 .inv .2 .few,
+      left-over (c .before .before),
+      numbers (placer l) .few,
+    )
 
 -- ---- the event is done
 
--- an answer beside a cell whose parts are known
-beside : (x : ℕ) (s : Settings) (hs hs' : List Host) (ss ss' : List Slot) → hs ≡ hs' → ss ≡ ss'
-    → answeredWith x (cellWith s hs ss) ≡ answeredWith x (cellWith s hs' ss')
-beside x s hs hs' ss ss' p q = rw (p, q)
+-- an answer and a count beside a cell whose hosts are known
+beside : (a k : ℕ) (s : Settings) (hs hs' : List Host) (ss : List Slot) (x : Answered) → hs' ≡ hs
+    → answeredWith a k (cellWith s hs ss) ≡ x → answeredWith a k (cellWith s hs' ss) ≡ x
+beside a k s hs hs' ss x r e = rw r e
 
 all-moved : (f : Host → Host) (start hs : List Host) (k moving : ℕ) → hs ≡ eachHost k f start
     → k ≤ moving → moving ≤ k → hs ≡ eachHost moving f start
 all-moved f start hs k moving e a b = let q : k ≡ moving = omega arith in rw q at e
 
-committed : (c : At tie.At-match3-came) →
-    let k = watching (spanned (moved (c .before) .before)) in
-    let l = reading k in
-    answeredWith (moved (c .before) .match2 .answer)
-    (cellWith (given l) (c .before .before .loop3 .hosts) (c .match3 .slots))
-    ≡ eventOf (cell l) (event k)
-committed c =
+abbrev placer3 : At tie.At-match3-came → At tie.At-loop
+placer3 c = head (spanned (moved (c .before) .before))
+
+settled : (c : At tie.At-match3-came) →
     let j = moved (c .before) in
+    let l = placer3 c in
+    answeredWith (c .match3 .answer) (c .match3 .j)
+    (cellWith (given l)
+    (committed (given l .n) (c .match3 .answer) (j .match2 .who) (j .match2 .pending)
+    (c .before .before .loop3 .hosts)) (c .match3 .slots))
+    ≡ eventOf (cell l) (event (watching (spanned (j .before))))
+settled c =
+    let j = moved (c .before) in
+    let n = given (placer3 c) .n in
     let v = c .before .before .loop3 in
-    beside _ _ _ _ _ _
-    (all-moved _ (j .match2 .hosts) (v .hosts) (v .k) (j .match2 .moving) (v .inv .2) (v .inv .1)
-    (c .before .loop3-test .left))
-    (placed c .0)
-    ∙ acted j .event-is
+    let a = acted j in
+    let x = c .match3 .answer in
+    let k = c .match3 .j in
+    let ss = c .match3 .slots in
+    let hs =
+    all-moved _ (j .match2 .hosts) (v .hosts) (v .k) (j .match2 .moving) (v .inv .2) (v .inv .1)
+    (c .before .loop3-test .left) in
+    ⊎-elim
+    (λ w.
+    let l = w .4 in
+    let r = w .8 .taken in
+    left-back a (w .1 .given .1) (l .inv .2) x k (v .hosts) ss r (l .inv .1 r)
+    (past (l .h) n (l .j) r (w .6 .left)) (w .16) (w .17) hs (w .9 .f) (w .9 .slots) (w .10 .left)
+    (w .9 .inv .2) (w .11 .taken) (w .14))
+    (⊎-elim
+    (λ w.
+    let l = w .4 in
+    let r = w .8 .taken in
+    left-as-is a (w .1 .given .1) (l .inv .2) x k (v .hosts) ss r (l .inv .1 r)
+    (past (l .h) n (l .j) r (w .6 .left)) (w .14) (w .15) hs (w .9 .f) (w .9 .slots) (w .10 .left)
+    (w .9 .inv .2) (w .11 .left) (w .12))
+    (⊎-elim
+    (λ w.
+    left-placed a (w .1 .given .1) (w .4 .inv .2) x k (v .hosts) ss (w .8 .left) (w .11) (w .12) hs
+    (w .9))
+    (λ w. left-quiet a (w .1 .given .1) x k (v .hosts) ss (w .4) (w .5) hs (w .2))))
+    (c .match3 .came)
+
+filled-long : (c : At tie.At-match3-came) → length (c .match3 .filled) ≡ 9
+filled-long c =
+    ⊎-elim (λ w. same-long 9 _ _ (w .4 .inv .0) (w .15))
+    (⊎-elim (λ w. same-long 9 _ _ (w .4 .inv .0) (w .13))
+    (⊎-elim (λ w. same-long 9 _ _ (w .4 .inv .0) (w .10))
+    (λ w. same-long 9 _ _ (placer3 c .loop .inv .3) (w .3))))
+    (c .match3 .came)
+
+-- the host whose step was pending is in its place
+committing : (c : At tie.Then6) →
+    moved (c .before .before) .match2 .who < given (placer3 (c .before)) .n
+committing c =
+    let who = moved (c .before .before) .match2 .who in
+    let n = given (placer3 (c .before)) .n in
+    ltb-true who n (both (eqb (c .before .match3 .answer) 0) (ltb who n) (c .if6 .taken) .1)
+
+hosts-are : (c : At tie.Joined6) →
+    let m = c .before in
+    let j = moved (m .before) in
+    c .if6 .hosts
+    ≡ committed (given (placer3 m) .n) (m .match3 .answer) (j .match2 .who) (j .match2 .pending)
+    (m .before .before .loop3 .hosts)
+hosts-are c =
+    ⊎-elim (λ w. rw (w .0 .taken) (w .3)) (λ w. rw (w .0 .left) (w .1)) (c .if6 .came)
+
+abbrev placer6 : At tie.Joined6 → At tie.At-loop
+placer6 c = placer3 (c .before)
+
+committed-event : (c : At tie.Joined6) →
+    let m = c .before in
+    let l = placer6 c in
+    answeredWith (m .match3 .answer) (m .match3 .j)
+    (cellWith (given l) (c .if6 .hosts) (m .match3 .slots))
+    ≡ eventOf (cell l) (event (watching (spanned (moved (m .before) .before))))
+committed-event c = beside _ _ _ _ _ _ _ (hosts-are c) (settled (c .before))
 
 -- ---- the line
 
 count-few : (c : At tie.At-loop) → c .loop .w .applied + c .loop .w .refused + 1 < 100000
 count-few c =
-    let g = c .loop .inv .2 in
+    let g = c .loop .inv .4 in
     omega (arith, g .few, g .inside, begun c .pre .short)
 
-abbrev named : At tie.At-loop6 → At tie.At-match3-came
+abbrev named : At tie.At-loop7 → At tie.Joined6
 named c = c .before .before .before .before .before .before .before
 
-abbrev shown : At tie.At-loop6 → List Host
-shown c = named c .before .before .loop3 .hosts
+abbrev shown : At tie.At-loop7 → List Host
+shown c = named c .if6 .hosts
 
 -- the names and the line's end have room
-room : (c : At tie.At-loop6) →
+room : (c : At tie.At-loop7) →
     let p = c .before .before .before .put-event-head in
-    p .result + 4 * given (placer3 (named c)) .n + 1 ≤ length (c .loop6 .out)
+    p .result + 4 * given (placer6 (named c)) .n + 1 ≤ length (c .loop7 .out)
 room c =
     let p = c .before .before .before .put-event-head in
-    let l = placer3 (named c) in
-    let g = l .loop .inv .2 in
-    omega (arith, c .loop6 .inv .0, p .kept .0, p .ensures .1, g .fits, g .same, numbers l .few)
+    let l = placer6 (named c) in
+    let g = l .loop .inv .4 in
+    omega (arith, c .loop7 .inv .0, p .kept .0, p .ensures .1, g .fits, g .same, numbers l .few)
 
 -- it is not long
 line-short : (c : At tie.After-put-byte) →
-    c .put-byte .result ≤ placer3 (named (c .before .before .before)) .loop .w .pos + 50
+    c .put-byte .result ≤ placer6 (named (c .before .before .before)) .loop .w .pos + 50
 line-short c =
     let l = c .before .before .before in
     let p = l .before .before .before .put-event-head in
     omega (
       arith,
       c .put-byte .ensures .past,
-      l .loop6 .inv .1,
+      l .loop7 .inv .1,
       p .ensures .1,
-      numbers (placer3 (named l)) .few,
+      numbers (placer6 (named l)) .few,
     )
 
 loop-holds : At tie.Need-loop-holds
 loop-holds c =
-    let start = c .before .before .before .before .before .before in
+    let start = c .before .before .before .before .before .before .before .before in
     let b = start .pre in
     let run = start .args .run .now in
     let e : length run - (0 + 0) ≡ length run = omega arith in (
       refl,
-      b .vacant,
+      b .sound .0 .hosts,
+      b .sound .0 .slots,
+      refl,
       record {
         inside = b .there;
         few = lit≤ tt;
@@ -625,19 +735,19 @@ loop-holds c =
 
 put-end-requires : At tie.Need-put-end-requires
 put-end-requires c κs =
-    let g = c .before .before .before .loop .inv .2 in
+    let g = c .before .before .before .loop .inv .4 in
     omega (arith, g .fits, g .same)
 
 same-length : At tie.Need-same-length
 same-length c =
     c .before .before .put-end .kept .0
-    ∙ c .before .before .before .before .before .before .loop .inv .2 .same
+    ∙ c .before .before .before .before .before .before .loop .inv .4 .same
 
 returns : At tie.Need-returns
 returns c =
     let m = c .before .before .before .before in
     let r = m .before in
-    going-end _ _ _ _ _ _ _ _ _ _ (r .before .loop .inv .2) (sym (r .read-at .ensures))
+    going-end _ _ _ _ _ _ _ _ _ _ (r .before .loop .inv .4) (sym (r .read-at .ensures))
     (m .match .keys2) (c .before .before .put-end .ensures)
 
 array-copy-out-first : At tie.Need-array-copy-out-first
@@ -655,7 +765,7 @@ loop2-holds c =
     let some = numbers l .some in
     let is =
     c .clock-after .ensures
-    ∙ sym (clock-is (cell l) (sized l) (ok l) _ (l .loop .inv .1) (event k) 0 some) in
+    ∙ sym (clock-is (cell l) (sized l) (ok l) (event k) 0 some) in
     (omega arith, some, rw is (span-first (movedHosts (cell l) (event k)) (given l .n) some))
 
 mul-host : At tie.Need-mul-host
@@ -677,8 +787,7 @@ loop2-again c =
     let is =
     c .before .before .clock-after2 .ensures
     ∙ sym
-    (clock-is (cell l) (sized l) (ok l) _ (l .loop .inv .1)
-    (event (watching p)) (p .loop2 .g) (clock-in t)) in
+    (clock-is (cell l) (sized l) (ok l) (event (watching p)) (p .loop2 .g) (clock-in t)) in
     let on =
     span-next (after p) (given l .n) (p .loop2 .g) (p .loop2 .low) (p .loop2 .high) (clock-in t)
     (v .2) in (
@@ -695,26 +804,26 @@ array-copy-out-actor c = omega (arith, place-few c)
 
 host-step-requires : At tie.Need-host-step-requires
 host-step-requires c κs =
-    let p = spanned (c .before .before .before .before .before) in
-    let l = head p in
-    let v = p .loop2 .inv in (
-      rw (c .before .place-of .ensures)
-          (host-fits (cell l) (sized l) (ok l) _ (l .loop .inv .1) _),
-      span-order (after p) (given l .n) (p .loop2 .g) (p .loop2 .low) (p .loop2 .high) (v .0)
-          (v .2),
-    )
+    let l = head (spanned (c .before .before .before .before .before)) in
+    rw (c .before .place-of .ensures) (host-fits (cell l) (sized l) (ok l) _)
 
-mul-hosts : At tie.Need-mul-hosts
-mul-hosts c = omega (arith, place-few (c .before .before .before))
+mul-pending : At tie.Need-mul-pending
+mul-pending c = omega (arith, place-few (c .before .before .before))
 
-array-set-from-hosts : At tie.Need-array-set-from-hosts
-array-set-from-hosts c = omega (arith, place-few (c .before .before .before))
+array-set-from-pending : At tie.Need-array-set-from-pending
+array-set-from-pending c = omega (arith, place-few (c .before .before .before))
 
 mul-held : At tie.Need-mul-held
 mul-held c = omega (arith, index-few c)
 
 array-copy-out-held : At tie.Need-array-copy-out-held
 array-copy-out-held c = omega (arith, index-few c)
+
+mul-former : At tie.Need-mul-former
+mul-former c = omega (arith, index-few (c .before))
+
+array-set-from-former : At tie.Need-array-set-from-former
+array-set-from-former c = omega (arith, index-few (c .before))
 
 mul-actor-2 : At tie.Need-mul-actor-2
 mul-actor-2 c = omega (arith, target-few c)
@@ -728,34 +837,23 @@ deliver-step-requires c κs =
     let i = indexed t in
     let p = spanned (delivering i) in
     let l = head p in
-    found-handed (cell l) (sized l) (ok l) _ (l .loop .inv .1)
-    (event (watching p)) _ (i .slot-index .result) (t .before .content-in .result)
+    found-handed (cell l) (sized l) (ok l) (event (watching p)) (l .loop .pending) (l .loop .former)
+    (given l .n) refl _ (i .slot-index .result) (t .before .content-in .result)
     (i .slot-index .ensures) (t .before .content-in .ensures) (t .target-in .result)
     (t .target-in .ensures)
 
-add-answer-with-room : At tie.Need-add-answer-with-room
-add-answer-with-room c =
-    omega (arith, few-empty (head (spanned (delivering (indexed (c .before .before))))))
+mul-pending-2 : At tie.Need-mul-pending-2
+mul-pending-2 c = omega (arith, target-few (c .before .before .before .before))
 
-mul-hosts-2 : At tie.Need-mul-hosts-2
-mul-hosts-2 c = omega (arith, target-few (c .before .before .before .before .before))
-
-array-set-from-hosts-2 : At tie.Need-array-set-from-hosts-2
-array-set-from-hosts-2 c = omega (arith, target-few (c .before .before .before .before .before))
+array-set-from-pending-2 : At tie.Need-array-set-from-pending-2
+array-set-from-pending-2 c = omega (arith, target-few (c .before .before .before .before))
 
 mul-slots : At tie.Need-mul-slots
-mul-slots c = omega (arith, index-few (indexed (c .before .before .before .before .before)))
+mul-slots c = omega (arith, index-few (indexed (c .before .before .before .before)))
 
 array-set-from-slots : At tie.Need-array-set-from-slots
 array-set-from-slots c =
-    omega (arith, index-few (indexed (c .before .before .before .before .before)))
-
-add-empty : At tie.Need-add-empty
-add-empty c =
-    omega (
-      arith,
-      few-empty (head (spanned (delivering (indexed (c .before .before .before .before .before))))),
-    )
+    omega (arith, index-few (indexed (c .before .before .before .before)))
 
 mul-held-2 : At tie.Need-mul-held-2
 mul-held-2 c = omega (arith, index-few2 c)
@@ -768,10 +866,6 @@ mul-slots-2 c = omega (arith, index-few2 (c .before .before .before .before))
 
 array-set-from-slots-2 : At tie.Need-array-set-from-slots-2
 array-set-from-slots-2 c = omega (arith, index-few2 (c .before .before .before .before))
-
-empty-with-requires : At tie.Need-empty-with-requires
-empty-with-requires c κs =
-    omega (arith, few-empty (head (spanned (losing (c .before .before .before .before)))))
 
 mul-held-3 : At tie.Need-mul-held-3
 mul-held-3 c = omega (arith, index-few3 c)
@@ -787,10 +881,9 @@ single-of-requires c κs =
     omega (
       arith,
       c .target-in2 .ensures,
-      found-target (cell l) (sized l) (ok l) _ (l .loop .inv .1)
-          (event (watching (spanned (repeating i)))) _ (i .slot-index3 .result)
-          (b .content-in3 .result)
-          (i .slot-index3 .ensures) (b .content-in3 .ensures),
+      found-target (cell l) (sized l) (ok l) (event (watching (spanned (repeating i))))
+          (l .loop .pending) (l .loop .former) (given l .n) refl _ (i .slot-index3 .result)
+          (b .content-in3 .result) (i .slot-index3 .ensures) (b .content-in3 .ensures),
       numbers l .few,
     )
 
@@ -800,7 +893,7 @@ advance-step-requires c κs =
     let l = head p in
     let v = p .loop2 .inv in (
       rw (c .before .place-of2 .ensures)
-          (host-fits (cell l) (sized l) (ok l) _ (l .loop .inv .1) _),
+          (host-fits (cell l) (sized l) (ok l) _),
       span-order (after p) (given l .n) (p .loop2 .g) (p .loop2 .low) (p .loop2 .high) (v .0)
           (v .2),
     )
@@ -821,11 +914,11 @@ moved-by-requires c κs =
     let t = c .before in
     rw (unmoved t) (acted (joined t) .early (t .before .loop3 .k) (t .loop3-test .taken))
 
-mul-hosts-4 : At tie.Need-mul-hosts-4
-mul-hosts-4 c = omega (arith, moving-few (c .before .before))
+mul-hosts-2 : At tie.Need-mul-hosts-2
+mul-hosts-2 c = omega (arith, moving-few (c .before .before))
 
-array-set-from-hosts-4 : At tie.Need-array-set-from-hosts-4
-array-set-from-hosts-4 c = omega (arith, moving-few (c .before .before))
+array-set-from-hosts-2 : At tie.Need-array-set-from-hosts-2
+array-set-from-hosts-2 c = omega (arith, moving-few (c .before .before))
 
 add-k : At tie.Need-add-k
 add-k c = omega (arith, moving-few (c .before .before))
@@ -855,17 +948,21 @@ loop4-holds : At tie.Need-loop4-holds
 loop4-holds c =
     let p = moved (sending c) in
     let a = acted p in
-    let n = given (head (spanned (p .before))) .n in
+    let l = head (spanned (p .before)) in
+    let n = given l .n in
     let to = p .match2 .receivers in
-    let next = next-is to 0 n (omega arith) in (
-      a .count,
+    let next = next-is to 0 n (omega arith) in
+    let long = l .loop .inv .3 in
+    let room : n ≤ length (l .loop .filled) = omega (arith, long, numbers l .few) in (
+      long,
       rw (c .next-in .ensures) (next .member),
       rw (c .next-in .ensures)
-          (placing-next 0 0 (placing-first n to _ (p .match2 .slots) (a .long))),
+          (placing-next 0 0 0
+          (placing-first n to _ (p .match2 .slots) (l .loop .filled) (a .long) room)),
     )
 
 loop5-holds : At tie.Need-loop5-holds
-loop5-holds c = λ start p. looking-first p
+loop5-holds c = (omega arith, λ start p b i. looking-first p)
 
 mul-held-4 : At tie.Need-mul-held-4
 mul-held-4 c =
@@ -891,11 +988,13 @@ loop5-less c =
 loop5-again : At tie.Need-loop5-again
 loop5-again c =
     let t = c .before .before in
-    let l = t .before .loop5 in
-    λ start p.
-    rw (c .is-empty .ensures)
-    (looking-next (look-below (l .j) (l .taken) (t .loop5-test .taken))
-    (l .inv start p .on (look-on (l .j) (l .taken) (t .loop5-test .taken))))
+    let l = t .before .loop5 in (
+      omega (arith, l .inv .0),
+      λ start p b i.
+          rw (c .is-empty .ensures)
+          (looking-next b i (look-below (l .j) (l .taken) (t .loop5-test .taken))
+          (l .inv .1 start p b i .on (look-on (l .j) (l .taken) (t .loop5-test .taken)))),
+    )
 
 sub-i : At tie.Need-sub-i
 sub-i c = omega (arith, vacant c .some)
@@ -906,108 +1005,187 @@ mul-slots-3 c = omega (arith, vacant-few (c .before))
 array-set-from-slots-3 : At tie.Need-array-set-from-slots-3
 array-set-from-slots-3 c = omega (arith, vacant-few (c .before))
 
-sub-empty : At tie.Need-sub-empty
-sub-empty c =
-    let t = c .before .before in
-    omega (arith, vacant-counts t (message (looked (t .before .before))))
+mul-filled : At tie.Need-mul-filled
+mul-filled c = omega (arith, spare (c .before))
+
+array-write-filled : At tie.Need-array-write-filled
+array-write-filled c = omega (arith, spare (c .before))
+
+add-f : At tie.Need-add-f
+add-f c = omega (arith, spare (c .before))
 
 add-next-in : At tie.Need-add-next-in
 add-next-in c =
-    let t = c .before .before .before in
+    let t = c .before .before .before .before in
     omega (arith, receiver t, numbers (placer (t .before .before)) .few)
 
 next-in-requires-2 : At tie.Need-next-in-requires-2
 next-in-requires-2 c κs =
-    let t = c .before .before .before in
+    let t = c .before .before .before .before in
     let n = numbers (placer (t .before .before)) .few in
     (omega (arith, receiver t), omega (arith, n))
 
 loop4-less : At tie.Need-loop4-less
 loop4-less c =
-    let t = c .before .before .before .before in
+    let p = c .before .before .before .before in
+    let t = p .before in
     let l = t .before .before in
-    let next =
-    next-is (placing l .match2 .receivers) (l .loop4 .h + 1) (given (placer l) .n)
-    (omega (arith, receiver t)) in
-    further (l .loop4 .h) (given (placer l) .n) _ _ (c .next-in2 .ensures) (next .least)
-    (receiver t)
+    further (l .loop4 .h) (given (placer l) .n) _ _ (l .loop4 .j) (p .loop5 .j)
+    (c .next-in2 .ensures) (following t .least) (receiver t) (p .loop5 .inv .0)
 
 loop4-again : At tie.Need-loop4-again
 loop4-again c =
-    let j = c .before in
-    let t = j .before .before .before in
+    let s = c .before in
+    let v = s .before in
+    let p = v .before .before in
+    let t = p .before in
     let l = t .before .before in
-    let next =
-    next-is (placing l .match2 .receivers) (l .loop4 .h + 1) (given (placer l) .n)
-    (omega (arith, receiver t)) in (
-      turned j .0,
-      rw (c .next-in2 .ensures) (next .member),
-      rw (c .next-in2 .ensures) (turned j .1),
+    let b = receiver t in (
+      length-set (l .loop4 .filled) (l .loop4 .f) _ ∙ l .loop4 .inv .0,
+      rw (c .next-in2 .ensures) (following t .member),
+      rw (c .next-in2 .ensures, s .slot-to .ensures)
+          (found-fills b (l .loop4 .inv .1 b) (vacant v)),
     )
 
+loop4-less-2 : At tie.Need-loop4-less-2
+loop4-less-2 c =
+    let p = c .before .before in
+    let l = looked p in
+    let n = given (placer l) .n in
+    let on = not-false (p .loop5 .taken) (c .if3 .left) in
+    ends-there (l .loop4 .h) n (l .loop4 .j) (p .loop5 .j)
+    (slot-below (l .loop4 .h) n (l .loop4 .j) (p .before .if2 .taken))
+    (look-past (p .loop5 .j) (p .loop5 .taken) on (c .before .loop5-test .left))
+
+loop4-again-2 : At tie.Need-loop4-again-2
+loop4-again-2 c =
+    let p = c .before .before in
+    let l = looked p in (
+      l .loop4 .inv .0,
+      l .loop4 .inv .1,
+      looks p .on (not-false (p .loop5 .taken) (c .if3 .left)),
+    )
+
+loop6-holds : At tie.Need-loop6-holds
+loop6-holds c = (omega arith, ended c .loop4 .inv .2 .long, refl)
+
+sub-f : At tie.Need-sub-f
+sub-f c = omega (arith, c .loop6-test .taken)
+
+mul-i : At tie.Need-mul-i
+mul-i c = omega (arith, emptying-few c)
+
+array-read-i : At tie.Need-array-read-i
+array-read-i c = omega (arith, emptying-few c)
+
+mul-slots-4 : At tie.Need-mul-slots-4
+mul-slots-4 c = omega (arith, emptying c)
+
+array-set-from-slots-4 : At tie.Need-array-set-from-slots-4
+array-set-from-slots-4 c = omega (arith, emptying c)
+
+loop6-less : At tie.Need-loop6-less
+loop6-less c = omega (arith, c .loop6-test .taken)
+
+loop6-again : At tie.Need-loop6-again
+loop6-again c =
+    let l = ended (c .before .before) in
+    let k = c .before .loop6 in (
+      omega (arith, k .inv .0),
+      length-set (k .slots) _ emptySlot ∙ k .inv .1,
+      emptied-on (k .f) (l .loop4 .filled) (k .slots) (c .loop6-test .taken) ∙ k .inv .2,
+    )
+
+mul-held-5 : At tie.Need-mul-held-5
+mul-held-5 c = omega (arith, c .before .if5 .taken)
+
+array-copy-out-held-5 : At tie.Need-array-copy-out-held-5
+array-copy-out-held-5 c = omega (arith, c .before .if5 .taken)
+
+mul-slots-5 : At tie.Need-mul-slots-5
+mul-slots-5 c = omega (arith, c .before .before .if5 .taken)
+
+array-set-from-slots-5 : At tie.Need-array-set-from-slots-5
+array-set-from-slots-5 c = omega (arith, c .before .before .if5 .taken)
+
+committing-few : (c : At tie.Then6) → moved (c .before .before) .match2 .who < 9
+committing-few c = omega (arith, committing c, numbers (placer3 (c .before)) .few)
+
+mul-after : At tie.Need-mul-after
+mul-after c = omega (arith, committing-few (c .before))
+
+array-copy-out-after : At tie.Need-array-copy-out-after
+array-copy-out-after c = omega (arith, committing-few (c .before))
+
+mul-hosts-3 : At tie.Need-mul-hosts-3
+mul-hosts-3 c = omega (arith, committing-few (c .before .before))
+
+array-set-from-hosts-3 : At tie.Need-array-set-from-hosts-3
+array-set-from-hosts-3 c = omega (arith, committing-few (c .before .before))
+
 add-place : At tie.Need-add-place
-add-place c = omega (arith, count-few (placer3 (c .before)))
+add-place c = omega (arith, count-few (placer6 (c .before)))
 
 add-place-2 : At tie.Need-add-place-2
-add-place-2 c = omega (arith, count-few (placer3 (c .before)))
+add-place-2 c = omega (arith, count-few (placer6 (c .before)))
 
 put-event-head-requires : At tie.Need-put-event-head-requires
 put-event-head-requires c κs =
-    let l = placer3 (c .before .before .before) in
-    let g = l .loop .inv .2 in
+    let l = placer6 (c .before .before .before) in
+    let g = l .loop .inv .4 in
     ((count-few l, rw (c .kind-of .ensures) (kind-small _)), omega (arith, g .fits, g .same))
 
-loop6-holds : At tie.Need-loop6-holds
-loop6-holds c = (refl, omega arith, todo-begin _ _ _)
+loop7-holds : At tie.Need-loop7-holds
+loop7-holds c = (refl, omega arith, todo-begin _ _ _)
 
 mul-host-3 : At tie.Need-mul-host-3
-mul-host-3 c = omega (arith, c .loop6-test .taken, numbers (placer3 (named (c .before))) .few)
+mul-host-3 c = omega (arith, c .loop7-test .taken, numbers (placer6 (named (c .before))) .few)
 
 array-copy-out-host-3 : At tie.Need-array-copy-out-host-3
 array-copy-out-host-3 c =
-    omega (arith, c .loop6-test .taken, numbers (placer3 (named (c .before))) .few)
+    omega (arith, c .loop7-test .taken, numbers (placer6 (named (c .before))) .few)
 
 put-name-of-requires : At tie.Need-put-name-of-requires
 put-name-of-requires c κs =
     let t = c .before .before in
-    omega (arith, t .loop6-test .taken, t .before .loop6 .inv .1, room (t .before))
+    omega (arith, t .loop7-test .taken, t .before .loop7 .inv .1, room (t .before))
 
 add-q : At tie.Need-add-q
 add-q c =
     let t = c .before .before .before .before .before in
-    omega (arith, t .loop6-test .taken, numbers (placer3 (named (t .before))) .few)
+    omega (arith, t .loop7-test .taken, numbers (placer6 (named (t .before))) .few)
 
-loop6-less : At tie.Need-loop6-less
-loop6-less c =
+loop7-less : At tie.Need-loop7-less
+loop7-less c =
     let t = c .before .before .before .before .before in
-    falls (t .before .loop6 .q) _ (t .loop6-test .taken)
+    falls (t .before .loop7 .q) _ (t .loop7-test .taken)
 
-loop6-again : At tie.Need-loop6-again
-loop6-again c =
+loop7-again : At tie.Need-loop7-again
+loop7-again c =
     let p = c .before .before in
     let t = p .before .before .before in
-    let l = t .before .loop6 in
+    let l = t .before .loop7 in
     let n = p .put-name-of in (
       n .kept .0 ∙ l .inv .0,
-      omega (arith, n .ensures .1, l .inv .1, t .loop6-test .taken),
+      omega (arith, n .ensures .1, l .inv .1, t .loop7-test .taken),
       todo-step (l .inv .2)
-          (names-step (shown (t .before)) (given (placer3 (named (t .before))) .n) (l .q)
-          (t .loop6-test .taken))
+          (names-step (shown (t .before)) (given (placer6 (named (t .before))) .n) (l .q)
+          (t .loop7-test .taken))
           (n .ensures .0),
     )
 
 put-byte-requires : At tie.Need-put-byte-requires
 put-byte-requires c κs =
     let l = c .before .before in
-    omega (arith, l .loop6 .inv .1, room l)
+    omega (arith, l .loop7 .inv .1, room l)
 
 walked-requires : At tie.Need-walked-requires
-walked-requires c κs = count-few (placer3 (named (c .before .before .before .before .before)))
+walked-requires c κs = count-few (placer6 (named (c .before .before .before .before .before)))
 
 loop-less : At tie.Need-loop-less
 loop-less c =
     let l = c .before .before .before .before .before .before in
-    let k = watching (spanned (moved (named l .before) .before)) in
+    let k = watching (spanned (moved (named l .before .before) .before)) in
     nearer _ _ _ _ _ _ _ (recorded k) (c .walked .ensures)
 
 loop-again : At tie.Need-loop-again
@@ -1016,18 +1194,21 @@ loop-again c =
     let u = b .before .before in
     let v = u .before in
     let j = named v in
-    let k = watching (spanned (moved (j .before) .before)) in
+    let m = moved (j .before .before) in
+    let k = watching (spanned (m .before)) in
     let l = reading k in
     let p = v .before .before .before in
     let written =
-    line (shown v) (given l .n) _ _ _ _ (v .loop6 .q) (p .put-event-head .ensures .0)
-    (p .before .kind-of .ensures) (v .loop6 .inv .2)
-    (u .loop6-test .left) (omega (arith, v .loop6 .inv .1, room v)) (b .put-byte .ensures) in (
+    line (shown v) (given l .n) _ _ _ _ (v .loop7 .q) (p .put-event-head .ensures .0)
+    (p .before .kind-of .ensures) (v .loop7 .inv .2)
+    (u .loop7-test .left) (omega (arith, v .loop7 .inv .1, room v)) (b .put-byte .ensures) in (
       l .loop .inv .0,
-      placed j .1,
+      pending-long m,
+      former-long m,
+      filled-long (j .before),
       rw (c .walked .ensures)
-          (going-turn _ _ _ _ _ _ _ _ _ _ _ _ _ _ _ _ (l .loop .inv .2) (recorded k) (committed j)
-          written (line-short b)),
+          (going-turn _ _ _ _ _ _ _ _ _ _ _ _ _ _ _ _ _ (l .loop .inv .4) (recorded k)
+          (committed-event j) written (line-short b)),
     )
 
 pub put-script-spec : {M : Type 1} → statement M
@@ -1044,6 +1225,8 @@ put-script-spec =
     μ-loop4
     Inv-loop6
     μ-loop6
+    Inv-loop7
+    μ-loop7
     Inv-loop
     μ-loop
     (λ c. search needs)
@@ -1074,25 +1257,24 @@ put-script-spec =
     mul-actor
     array-copy-out-actor
     host-step-requires
-    mul-hosts
-    array-set-from-hosts
+    mul-pending
+    array-set-from-pending
     (λ c. search needs)
     (λ c κs. search needs)
     mul-held
     array-copy-out-held
+    mul-former
+    array-set-from-former
     (λ c κs. search needs)
     (λ c κs. search needs)
     (λ c. search needs)
     mul-actor-2
     array-copy-out-actor-2
     deliver-step-requires
-    add-answer-with-room
-    (λ c κs. search needs)
-    mul-hosts-2
-    array-set-from-hosts-2
+    mul-pending-2
+    array-set-from-pending-2
     mul-slots
     array-set-from-slots
-    add-empty
     (λ c. search needs)
     (λ c κs. search needs)
     mul-held-2
@@ -1102,7 +1284,6 @@ put-script-spec =
     (λ c κs. search needs)
     mul-slots-2
     array-set-from-slots-2
-    empty-with-requires
     (λ c. search needs)
     (λ c κs. search needs)
     mul-held-3
@@ -1123,8 +1304,8 @@ put-script-spec =
     mul-host-2
     array-copy-out-host-2
     moved-by-requires
-    mul-hosts-4
-    array-set-from-hosts-4
+    mul-hosts-2
+    array-set-from-hosts-2
     add-k
     loop3-less
     loop3-again
@@ -1142,23 +1323,43 @@ put-script-spec =
     (λ c κs. tt)
     mul-slots-3
     array-set-from-slots-3
-    sub-empty
+    mul-filled
+    array-write-filled
+    add-f
     add-next-in
     next-in-requires-2
     loop4-less
     loop4-again
+    loop4-less-2
+    loop4-again-2
+    loop6-holds
+    sub-f
+    mul-i
+    array-read-i
+    mul-slots-4
+    array-set-from-slots-4
+    loop6-less
+    loop6-again
+    mul-held-5
+    array-copy-out-held-5
+    mul-slots-5
+    array-set-from-slots-5
     (λ c. c .match3 .keys2)
+    mul-after
+    array-copy-out-after
+    mul-hosts-3
+    array-set-from-hosts-3
     add-place
     add-place-2
     (λ c κs. tt)
     put-event-head-requires
-    loop6-holds
+    loop7-holds
     mul-host-3
     array-copy-out-host-3
     put-name-of-requires
     add-q
-    loop6-less
-    loop6-again
+    loop7-less
+    loop7-again
     put-byte-requires
     walked-requires
     loop-less
