@@ -65,7 +65,7 @@ fn eighty_slots() -> Option<Driver> {
     }))
 }
 
-/// A cell of nine hosts with so many slots in use, or none.
+/// A cell of nine hosts with so many slots in use: none, or nine and more.
 fn in_use(slots: u8) -> Option<Driver> {
     let mut driver = opened(9)?;
     if slots > 0 {
@@ -77,7 +77,7 @@ fn in_use(slots: u8) -> Option<Driver> {
     Some(driver)
 }
 
-/// Over and over a host sends to all nine, and their messages are lost.
+/// Over and over a host sends to all nine, and its messages are lost.
 fn nine_messages(slots: u8) -> Option<Driver> {
     Some(filled(in_use(slots)?, |place| match place % 11 {
         0 => Event::AdvanceAll { ticks: 1 },

@@ -143,7 +143,7 @@ module _ {n receivers : ℕ} {m : Message} {start ss : List Slot} {filled : List
       (rw i at (placing-fill (v .placing) a (v .there) t (v .empty)))
 
   -- a receiver is left where the slots end: more is to be placed than was
-  pub receiver-left : h < n → isIn receivers h ≡ true → Placing n receivers m start ss filled h j k
+  receiver-left : h < n → isIn receivers h ≡ true → Placing n receivers m start ss filled h j k
       → k < length (members n receivers)
   receiver-left a t p =
       let more : k + length (h ∷ membersFrom receivers (h + 1) (n - (h + 1)))
@@ -152,7 +152,7 @@ module _ {n receivers : ℕ} {m : Message} {start ss : List Slot} {filled : List
       omega (arith, more)
 
   -- and where none is, all is placed
-  pub none-left : n ≤ h → Placing n receivers m start ss filled h j k
+  none-left : n ≤ h → Placing n receivers m start ss filled h j k
       → length (members n receivers) ≤ k
   unfolding membersFrom
   none-left b p =
@@ -169,12 +169,12 @@ module _ {c : Cell} {e : Event} {answer : ℕ} {hosts pending : List Host} {who 
   abbrev afterMoves : List Host
   afterMoves = eachHost moving (λ h. advancedHost h (ticksOf e)) hosts
 
-  abbrev cellOf : List Host → List Slot → Cell
-  cellOf hs ss = record { settings = c .settings; hosts = hs; slots = ss }
+  abbrev cellWith : List Host → List Slot → Cell
+  cellWith hs ss = record { settings = c .settings; hosts = hs; slots = ss }
 
   pub nothing-sent : sent ≡ Sent.Nothing
       → answeredWith answer 0
-      (cellOf (committed (c .settings .n) answer who pending afterMoves) slots) ≡ eventOf c e
+      (cellWith (committed (c .settings .n) answer who pending afterMoves) slots) ≡ eventOf c e
   unfolding messagesIn lookedFor sentTo
   nothing-sent t = rw t at (a .fits (rw t (omega arith)))
 
@@ -187,7 +187,7 @@ module _ {c : Cell} {e : Event} {answer : ℕ} {hosts pending : List Host} {who 
 
       pub all-placed : c .settings .n ≤ h
           → answeredWith answer j
-          (cellOf (committed (c .settings .n) answer who pending afterMoves) ss) ≡ eventOf c e
+          (cellWith (committed (c .settings .n) answer who pending afterMoves) ss) ≡ eventOf c e
       unfolding sentTo
       all-placed b =
           let d = placing-done p (none-left b p) in
@@ -196,7 +196,7 @@ module _ {c : Cell} {e : Event} {answer : ℕ} {hosts pending : List Host} {who 
 
       pub no-room : h < c .settings .n → isIn receivers h ≡ true → slotCount ≤ j
           → answeredWith refusedFull j
-          (cellOf afterMoves (putBack freed former (emptied k filled ss))) ≡ eventOf c e
+          (cellWith afterMoves (putBack freed former (emptied k filled ss))) ≡ eventOf c e
       no-room b i l =
           let d = placing-ended p (inr l) (receiver-left b i p) in
           rw (d .looked-is, p .undone) (rw counts at (a .full (rw counts (d .too-few))))

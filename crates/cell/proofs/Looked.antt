@@ -54,7 +54,7 @@ use Rattle.cell.proofs.Events.{by-outcome, answer-is}
 abbrev pub Reaches : ℕ → Type 0
 Reaches a = (eqb a done || eqb a refusedFull) ≡ true
 
-pub count-none : (a k : ℕ) → (a ≡ done → ⊥) → (a ≡ refusedFull → ⊥) → countWith a k ≡ 0
+count-none : (a k : ℕ) → (a ≡ done → ⊥) → (a ≡ refusedFull → ⊥) → countWith a k ≡ 0
 count-none a k n f = rw (ne-eqb a done n, ne-eqb a refusedFull f)
 
 pub count-zero : (a : ℕ) → countWith a 0 ≡ 0
@@ -70,7 +70,8 @@ count-same a x y f = go (eqb a done || eqb a refusedFull) f
 
 -- ---- numbers that are not 13
 
--- where a list's answer is P, which its first number is not unless it is 0, the rest's is
+-- where P holds of a list's answer, and of its first number only if that is 0, the first is 0 and P
+-- holds of the rest's answer
 past : (P : ℕ → Type 0) (k : ℕ) (ks : List ℕ) → ((k ≡ done → ⊥) → P k → ⊥) → P (firstOf (k ∷ ks))
     → (k ≡ done) × P (firstOf ks)
 unfolding firstOf
@@ -83,7 +84,7 @@ past P k ks n r = go (eqb k done) refl r
 abbrev pub NotFull : ℕ → Type 0
 NotFull r = r ≡ refusedFull → ⊥
 
-pub full-past : (k : ℕ) (ks : List ℕ) → NotFull k → firstOf (k ∷ ks) ≡ refusedFull
+full-past : (k : ℕ) (ks : List ℕ) → NotFull k → firstOf (k ∷ ks) ≡ refusedFull
     → firstOf ks ≡ refusedFull
 full-past k ks n e = past (λ (r : ℕ). r ≡ refusedFull) k ks (λ _. n) e .1
 
@@ -134,7 +135,7 @@ restart-not-full s h = then-full (hostOk s h) refusedCell [] refl none-full
 
 -- ---- 13 looks at every slot
 
--- of slots as many as there are
+-- of 96 slots
 module _ (ss : List Slot) (long : length ss ≡ slotCount) where
   full-looked : (k : ℕ) → fullRefusal k ss ≡ refusedFull → lookedFor k ss ≡ slotCount
   full-looked k e = slots.full ss k (go (leb k (empties ss)) refl e) ∙ long
@@ -178,7 +179,7 @@ module _ (c : Cell) (z : Sized c) where
       full-looked _ (length-freed (c .slots) i ∙ z .slots) _
       (sym (first-only _) ∙ slot-past i (Content.One m) _ (cell-past _ e))
 
-  pub full-placing : (e : Event) → refusalOf c e ≡ refusedFull → placingOf c e ≡ slotCount
+  full-placing : (e : Event) → refusalOf c e ≡ refusedFull → placingOf c e ≡ slotCount
   unfolding refusalOf placingOf advanceAllRefusal advanceOneRefusal startAtRefusal deliverRefusal
       loseRefusal repeatRefusal restartAtRefusal releaseAtRefusal
   full-placing (AdvanceAll d) q =
@@ -225,7 +226,7 @@ full-looks c e z a =
 
 -- ---- what a step sends has as many receivers as 13 counts
 
--- so many messages are placed
+-- the set has as many hosts as it has below n
 unfoldable pub Counted : ℕ → Sent → ℕ → Type 0
 Counted n Sent.Nothing receivers = Unit
 Counted n (Sent.One m) receivers = sizeOf receivers ≡ length (members n receivers)

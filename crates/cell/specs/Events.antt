@@ -160,7 +160,7 @@ startAtRefusal c h d =
 abbrev pub deliverStep : Cell → Message → Stepped
 deliverStep c m = onDelivery (c .settings) (hostAt c (targetOf m)) m
 
--- the slots that 13 and the walk that places are about
+-- a delivery's slots, for 13 and for the walk that places
 abbrev pub countedFor : Cell → ℕ → List Slot
 countedFor c i = freed (c .slots) i
 
@@ -261,7 +261,7 @@ placingOf c (Repeat i) = lookedFor 1 (c .slots)
 placingOf c (Restart h) = 0
 placingOf c (Release h) = stepLooked (c .slots) (releaseStep c h)
 
--- it gets so far unless anything but 13 refuses it
+-- it gets so far unless a number other than 13 refuses it
 abbrev pub countWith : ℕ → ℕ → ℕ
 countWith a k = cond (eqb a done || eqb a refusedFull) k 0
 

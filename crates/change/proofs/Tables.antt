@@ -190,7 +190,7 @@ target-small c i o = go (contentAt c i) refl
 
 module _ (c : Cell) (z : Sized c) (o : cellOk c ≡ true) where
   -- a host whose clock did not move stays near
-  pub still-clocks : (h : ℕ) (x : Host) → x .clock ≡ hostAt c h .clock
+  still-clocks : (h : ℕ) (x : Host) → x .clock ≡ hostAt c h .clock
       → clocksNear (withHost c h x) ≡ true
   still-clocks h x t =
       let i = cell-in c z o in
@@ -636,11 +636,11 @@ module _ {c : Cell} {e : Event} {i h : ℕ} {k : Change} (f : Found c e i h k) w
       ∙ ap (λ (x : ℕ). answerWith x (countWith a walked) c (afterOf c e)) (is-found ∙ q)
       ∙ rw (ne-eqb a done n))
 
-  pub event-refused : (a : ℕ) → (a ≡ done → ⊥) → countWith a walked ≡ 0 → changeRefusal c i h k ≡ a
+  event-refused : (a : ℕ) → (a ≡ done → ⊥) → countWith a walked ≡ 0 → changeRefusal c i h k ≡ a
       → answeredWith a 0 c ≡ eventOf c e
   event-refused a n z q = rw z at (event-refused-with a n q)
 
-  pub event-done : changeRefusal c i h k ≡ done
+  event-done : changeRefusal c i h k ≡ done
       → answeredWith done walked (changed c i h k) ≡ eventOf c e
   unfolding eventOf
   event-done q =

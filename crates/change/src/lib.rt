@@ -1,9 +1,8 @@
 // What an event does, found from small values: settings, the event, one host and what one slot
-// holds. It is handed no cell: which host and which slot they are, and whether there is room for
-// what is sent, is for the crates `event` and `acts`.
+// holds. It is handed no cell: which host and which slot they are is for the crates `event` and
+// `acts`, and whether there is room for what is sent for the walk that places it.
 ghost use mathlib.Core.Path.{_≡_};
 ghost use Prim.Native.Nat.{_<_};
-ghost use Rattle.cell.specs.Events.{messagesIn};
 ghost use Rattle.change.specs.Parts.{change, isAll, ticksOf, slotOf, targetIn, hostOf};
 ghost use Rattle.change.specs.Parts.{deliverChange, loseChange, repeatChange, changeOf};
 use base::REFUSED_SLOT;
@@ -164,15 +163,5 @@ pub fn change_of(s: Settings, e: Event, h: Host, content: Content) -> Change
         Event::Repeat(_) => repeat_change(h, content),
         Event::Restart(_) => change_by(h.restart(s), false),
         Event::Release(_) => change_by(h.release(s), false),
-    }
-}
-
-// How many messages a step sends.
-pub fn messages_in(sent: Sent, receivers: u16) -> usize
-    ensures { λ r. ⌜ r ≡ messagesIn sent receivers ⌝ }
-{
-    match sent {
-        Sent::Nothing => 0,
-        Sent::One(_) => quorum::size_of(receivers) as usize,
     }
 }

@@ -46,30 +46,30 @@ acted-same p e1 e2 e3 e4 e5 e6 e7 e8 e9 e10 = rw (e1, e2, e3, e4, e5, e6, e7, e8
 
 -- with these hosts pending and these slots kept before it
 module _ (c : Cell) (z : Sized c) (o : cellOk c ≡ true) (e : Event) (pending : List Host)
-    (before : List Slot) (n : ℕ) (q : n ≡ c .settings .n) where
+    (former : List Slot) (n : ℕ) (q : n ≡ c .settings .n) where
   pub found-all : actOf e ≡ Act.All → (g low high answer moving : ℕ) → watchedBy e n ≤ g
       → g ≤ c .settings .n → Span (movedHosts c e) (c .settings .n) g low high
       → answer ≡ allAnswer e high → moving ≡ movingWith answer n
-      → Acted c e answer (c .hosts) pending n (c .slots) before slotCount moving Sent.Nothing 0
+      → Acted c e answer (c .hosts) pending n (c .slots) former slotCount moving Sent.Nothing 0
   found-all t g low high answer moving seen most span a k =
-      rw (k, a, q) (all-acts c z o e t pending before g low high (rw q at seen) most span)
+      rw (k, a, q) (all-acts c z o e t pending former g low high (rw q at seen) most span)
 
   pub found-host : (number : ℕ) → actOf e ≡ Act.Host number → (place : ℕ) (step : Stepped)
       → length pending ≡ 9 → place ≡ placeOf (c .settings .n) number
       → step ≡ hostStep (c .settings) e number (getD (c .hosts) place blankHost)
       → Acted c e (step .answer) (c .hosts) (set pending place (step .host)) place (c .slots)
-      before slotCount 0 (step .sent) (step .receivers)
-  found-host number t place step l p k = rw (k, p) (host-acts c z o e number t pending l before)
+      former slotCount 0 (step .sent) (step .receivers)
+  found-host number t place step l p k = rw (k, p) (host-acts c z o e number t pending l former)
 
   pub found-advance : (number : ℕ) → actOf e ≡ Act.Advance number → (g low high place : ℕ)
       (step : Stepped) → watchedBy e n ≤ g → g ≤ c .settings .n
       → Span (movedHosts c e) (c .settings .n) g low high → place ≡ placeOf (c .settings .n) number
       → step ≡ advanceStep (c .settings) e number (getD (c .hosts) place blankHost) low high
-      → Acted c e (step .answer) (set (c .hosts) place (step .host)) pending n (c .slots) before
+      → Acted c e (step .answer) (set (c .hosts) place (step .host)) pending n (c .slots) former
       slotCount 0 (step .sent) (step .receivers)
   found-advance number t g low high place step seen most span p k =
       rw (k, p, q)
-      (advance-acts c z o e number t pending before g low high (rw q at seen) most span)
+      (advance-acts c z o e number t pending former g low high (rw q at seen) most span)
 
   -- what stands in the slot that an event is about
   module _ (i index : ℕ) (t : Content) (x : index ≡ slotIndex i)
@@ -83,33 +83,33 @@ module _ (c : Cell) (z : Sized c) (o : cellOk c ≡ true) (e : Event) (pending :
 
     pub found-lost : actOf e ≡ Act.Lose i → (answer : ℕ) (kept : Slot) → answer ≡ slotAnswer t
         → kept ≡ slotWithAnswer answer (getD (c .slots) index emptySlot)
-        → Acted c e answer (c .hosts) pending n (set (c .slots) index kept) before slotCount 0
+        → Acted c e answer (c .hosts) pending n (set (c .slots) index kept) former slotCount 0
         Sent.Nothing 0
-    found-lost a answer kept b k = rw (k, b, y, x, q) (lose-acts c z o e i pending before a)
+    found-lost a answer kept b k = rw (k, b, y, x, q) (lose-acts c z o e i pending former a)
 
     pub found-repeated : actOf e ≡ Act.Repeat i → (answer target to : ℕ) (sent : Sent)
         → answer ≡ slotAnswer t → sent ≡ sentIn t → target ≡ targetIn t → to ≡ singleOf target
-        → Acted c e answer (c .hosts) pending n (c .slots) before slotCount 0 sent to
+        → Acted c e answer (c .hosts) pending n (c .slots) former slotCount 0 sent to
     found-repeated a answer target to sent b k p r =
-        rw (k, r, p, b, y, x, q) (repeat-acts c z o e i pending before a)
+        rw (k, r, p, b, y, x, q) (repeat-acts c z o e i pending former a)
 
     module _ (a : actOf e ≡ Act.Deliver i) (target : ℕ) (step : Stepped) (p : target ≡ targetIn t)
         (k : step ≡ deliverAct (c .settings) (getD (c .hosts) target blankHost) t)
       where
         pub found-refused : (step .answer ≡ done → ⊥)
             → Acted c e (step .answer) (c .hosts) pending target (c .slots)
-            (set before index (getD (c .slots) index emptySlot)) index 0 Sent.Nothing 0
+            (set former index (getD (c .slots) index emptySlot)) index 0 Sent.Nothing 0
         found-refused d =
-            rw (k, p, y, x) (deliver-refused c z o e i pending before a (rw (k, p, y, x) at d))
+            rw (k, p, y, x) (deliver-refused c z o e i pending former a (rw (k, p, y, x) at d))
 
-        pub found-delivered : length pending ≡ 9 → length before ≡ slotCount → step .answer ≡ done
+        pub found-delivered : length pending ≡ 9 → length former ≡ slotCount → step .answer ≡ done
             → Acted c e (step .answer) (c .hosts) (set pending target (step .host)) target
             (set (c .slots) index emptySlot)
-            (set before index (getD (c .slots) index emptySlot)) index 0 (step .sent)
+            (set former index (getD (c .slots) index emptySlot)) index 0 (step .sent)
             (step .receivers)
         found-delivered l m d =
             rw (k, p, y, x)
-            (deliver-done c z o e i pending before a (rw (k, p, y, x) at d) l m)
+            (deliver-done c z o e i pending former a (rw (k, p, y, x) at d) l m)
 
 -- ---- and the event that it leaves, once what it sends is placed or found to have no room
 

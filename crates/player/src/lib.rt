@@ -32,7 +32,7 @@ pub const LISTING_ROOM: usize = 655488;
 // The lines of the events, the stop and the counts, from an opened cell on. The cell is handed to
 // no function, since that would copy it: hosts and slots are locals of this loop, the rules are
 // asked with one host and one message, and what they answer is committed here. A host whose step
-// sends a message is pending until the message is placed, and what a freed slot held is kept.
+// may send is pending until what it sends is placed, and what a freed slot held is kept.
 fn put_script(run: &[u8], out: &mut [u8], from: usize, opened: Answered) -> usize
     requires { ⌜ Begins (now run) (now out) from (cellOf opened) ⌝ }
     ensures { λ r. ⌜ Put (now (out .entry)) from

@@ -5,7 +5,6 @@ use mathlib.Core.Bool.{Bool, true, false, cond}
 use mathlib.Core.Logic.{_⊎_, inl, inr}
 use mathlib.Core.List.{List, [], _∷_}
 use Prim.Native.Nat.{ℕ, zero, suc, _+_, _-_, _≤_, _<_}
-use native.Mathlib.Nat.{add-zero}
 use native.Mathlib.Numerals.{add-one}
 use native.Mathlib.Decide.{decLt}
 use native.Mathlib.Omega.{arith}
@@ -22,7 +21,7 @@ use Rattle.slots.specs.declared.Slot.{Slot}
 use Rattle.slots.specs.declared.Turn.{Turn}
 use Rattle.slots.specs.Slots.{slotCount, emptySlot, slotWith, isEmpty, empties, lowest}
 use Rattle.slots.specs.Slots.{placed, placedEach, lookedFor, freed}
-use Rattle.slots.specs.Parts.{fillingTurn, passingTurn, turnOf, emptied}
+use Rattle.slots.specs.Parts.{fillingTurn, passedOver, turnOf, emptied}
 use Rattle.slots.proofs.Laws.{filled-counts}
 
 -- ---- the slots from i on, by slot i
@@ -115,7 +114,7 @@ refreed ss i x e =
     ∙ ap (λ (s : Slot). set ss i s) (sym (empty-is (getD ss i emptySlot) e))
     ∙ set-getD ss i emptySlot
 
--- the places that are remembered above k do not matter
+-- what is remembered from place k on does not matter
 emptied-below : (k j i : ℕ) (filled : List ℕ) (ss : List Slot) → k ≤ j
     → emptied k (set filled j i) ss ≡ emptied k filled ss
 unfolding emptied
@@ -124,7 +123,7 @@ emptied-below (suc k) j i filled ss h =
     rw (getD-set-other filled j k i 0 (λ e. absurd (omega arith)))
     (emptied-below k j i filled (freed ss (getD filled k 0)) (omega arith))
 
--- one slot fewer is to be emptied again, and none
+-- emptying the last of them leaves one fewer; with none left it is done
 pub emptied-on : (f : ℕ) (filled : List ℕ) (ss : List Slot) → 0 < f
     → emptied (f - 1) filled (freed ss (getD filled (f - 1) 0)) ≡ emptied f filled ss
 unfolding emptied
@@ -159,8 +158,8 @@ module _ (receivers h n : ℕ) (b : h < n) where
       → membersFrom receivers h (n - h) ≡ cond x (h ∷ later) later
   next x e = members-step receivers h n b ∙ ap (λ (y : Bool). cond y (h ∷ later) later) e
 
--- ---- the walk that places: the hosts below h have had their turn, the slots below i are taken or
--- were looked at, and k of them were filled
+-- ---- the walk that places: the hosts below h have had their turn, and the slots below i were
+-- looked at and are taken, k of them filled by the walk
 
 pub record Placing (n receivers : ℕ) (m : Message) (start ss : List Slot) (filled : List ℕ)
     (h i k : ℕ) : Type 0 where
@@ -170,11 +169,11 @@ pub record Placing (n receivers : ℕ) (m : Message) (start ss : List Slot) (fil
   pub taken : lowest ss ≡ i + lowest (drop i ss)
   pub rest : placedEach ss m (membersFrom receivers h (n - h))
       ≡ placedEach start m (members n receivers)
-  -- slots are filled and left to fill, and empty ones
+  -- how many slots are filled, how many are still to be, and how many are empty
   pub few : k ≤ h
   pub due : k + length (membersFrom receivers h (n - h)) ≡ length (members n receivers)
   pub left : k + empties ss ≡ empties start
-  -- slots are looked at and left to look at
+  -- how many slots were looked at, and are still to be
   pub looked : i + lookedFor (length (membersFrom receivers h (n - h))) (drop i ss)
       ≡ lookedFor (length (members n receivers)) start
   -- which were filled is remembered
@@ -295,7 +294,7 @@ module _ {n receivers : ℕ} {m : Message} {start ss : List Slot} {filled : List
           rw (q, getD-set-same filled k i 0 spare) c
 
   -- what stands behind the places that are remembered does not matter
-  pub placing-remembers : (x : ℕ) → Placing n receivers m start ss (set filled k x) h i k
+  placing-remembers : (x : ℕ) → Placing n receivers m start ss (set filled k x) h i k
   placing-remembers x =
       record {
         hosts = p .hosts;
@@ -368,15 +367,13 @@ module _ {n receivers : ℕ} {m : Message} {start ss : List Slot} {filled : List
       → isEmpty (getD ss i emptySlot .content) ≡ true → WalksOn (fillingTurn m h i)
   filling b c e f = (placing-fill p b c e f, omega arith)
 
-  -- a slot that is taken is passed over, and not counted as filled
-  passing : h < n → i < slotCount → isIn receivers h ≡ true
-      → isEmpty (getD ss i emptySlot .content) ≡ false
-      → WalksOn (passingTurn h i (getD ss i emptySlot))
-  passing b c e f =
-      let none : k + passingTurn h i (getD ss i emptySlot) .fills ≡ k = omega arith in (
-        rw (set-getD ss i emptySlot, none) (placing-remembers (placing-on p b c e f) i),
-        omega arith,
-      )
+  -- where nothing is filled, nothing is counted as filled
+  passing : (h' i' : ℕ) → Placing n receivers m start ss filled h' i' k
+      → (n - h') + (slotCount - i') < (n - h) + (slotCount - i)
+      → WalksOn (passedOver (getD ss i emptySlot) h' i')
+  passing h' i' q l =
+      let none : k + passedOver (getD ss i emptySlot) h' i' .fills ≡ k = omega arith in
+      (rw (set-getD ss i emptySlot, none) (placing-remembers q i), l)
 
   -- a turn of the walk that places goes on with it, and it ends
   pub placing-turn : h < n → i < slotCount → WalksOn (turnOf m receivers h i (getD ss i emptySlot))
@@ -384,12 +381,9 @@ module _ {n receivers : ℕ} {m : Message} {start ss : List Slot} {filled : List
   placing-turn b c =
       let held = getD ss i emptySlot in
       by-test WalksOn (isIn receivers h)
-      (cond (isEmpty (held .content)) (fillingTurn m h i) (passingTurn h i held))
-      (record { slot = held; host = h + 1; at = i; fills = 0 })
+      (cond (isEmpty (held .content)) (fillingTurn m h i) (passedOver held h (i + 1)))
+      (passedOver held (h + 1) i)
       (λ e.
-      by-test WalksOn (isEmpty (held .content)) (fillingTurn m h i) (passingTurn h i held)
-      (filling b c e) (passing b c e))
-      (λ e. (
-        rw (set-getD ss i emptySlot, add-zero k) (placing-remembers (placing-skip p b e) i),
-        omega arith,
-      ))
+      by-test WalksOn (isEmpty (held .content)) (fillingTurn m h i) (passedOver held h (i + 1))
+      (filling b c e) (λ f. passing h (i + 1) (placing-on p b c e f) (omega arith)))
+      (λ e. passing (h + 1) i (placing-skip p b e) (omega arith))

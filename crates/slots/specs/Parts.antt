@@ -18,21 +18,22 @@ slotAfter frees held = cond frees emptySlot held
 
 -- ---- the walk that places
 
--- a message goes into slot j, and the walk goes on from there with the next host; in a taken slot's
--- turn it goes on to the next slot
+-- a message goes into slot j: next are the next host and the next slot
 abbrev pub fillingTurn : Message → ℕ → ℕ → Turn
 fillingTurn m h j =
     record { slot = slotWith (addressedTo m h); host = h + 1; at = j + 1; fills = 1 }
 
-abbrev pub passingTurn : ℕ → ℕ → Slot → Turn
-passingTurn h j held = record { slot = held; host = h; at = j + 1; fills = 0 }
+-- the slot is left as it is
+abbrev pub passedOver : Slot → ℕ → ℕ → Turn
+passedOver held h j = record { slot = held; host = h; at = j; fills = 0 }
 
--- host h and slot j have their turn: a receiver's message goes into an empty slot
+-- host h and slot j have their turn: a receiver's message goes into an empty slot; a host that is
+-- no receiver is passed over, and so is a slot that is taken
 unfoldable pub turnOf : Message → ℕ → ℕ → ℕ → Slot → Turn
 turnOf m receivers h j held =
     cond (isIn receivers h)
-    (cond (isEmpty (held .content)) (fillingTurn m h j) (passingTurn h j held))
-    (record { slot = held; host = h + 1; at = j; fills = 0 })
+    (cond (isEmpty (held .content)) (fillingTurn m h j) (passedOver held h (j + 1)))
+    (passedOver held (h + 1) j)
 
 -- the k slots that it filled are emptied again, the last of them first
 unfoldable pub emptied : ℕ → List ℕ → List Slot → List Slot

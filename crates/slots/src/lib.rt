@@ -4,7 +4,7 @@
 ghost use mathlib.Core.Path.{_≡_};
 ghost use Prim.Native.Nat.{_<_};
 ghost use Rattle.slots.specs.Slots.{isEmpty, contentOk, slotsOk, noMessages};
-ghost use Rattle.slots.specs.Parts.{slotAfter, turnOf};
+ghost use Rattle.slots.specs.Parts.{slotAfter, passedOver, turnOf};
 use base::DONE;
 use message::Message;
 use message::Sizes;
@@ -90,6 +90,18 @@ pub fn slot_after(frees: bool, held: Slot) -> Slot
     held
 }
 
+// A turn that leaves its slot as it is.
+fn passed_over(held: Slot, host: u8, at: usize) -> Turn
+    ensures { λ r. ⌜ r ≡ passedOver held host at ⌝ }
+{
+    Turn {
+        slot: held,
+        host,
+        at,
+        fills: 0,
+    }
+}
+
 // The walk that places, at host h and slot j: a host that is no receiver is passed over, and so is
 // a slot that is taken. From a slot that is filled it goes on to the next.
 pub fn turn_of(m: Message, receivers: u16, h: u8, j: usize, held: Slot) -> Turn
@@ -97,30 +109,19 @@ pub fn turn_of(m: Message, receivers: u16, h: u8, j: usize, held: Slot) -> Turn
     ensures { λ r. ⌜ r ≡ turnOf m receivers h j held ⌝ }
 {
     if !quorum::is_in(receivers, h) {
-        return Turn {
-            slot: held,
-            host: h + 1,
-            at: j,
-            fills: 0,
-        };
+        return passed_over(held, h + 1, j);
     }
     let content = held.content;
     if !is_empty(content) {
-        return Turn {
-            slot: held,
-            host: h,
-            at: j + 1,
-            fills: 0,
-        };
+        return passed_over(held, h, j + 1);
     }
     let addressed = message::addressed_to(m, h);
-    let next = j + 1;
     Turn {
         slot: Slot {
             content: Content::One(addressed),
         },
         host: h + 1,
-        at: next,
+        at: j + 1,
         fills: 1,
     }
 }

@@ -26,7 +26,7 @@ lookedIn c (e ∷ es) = eventOf c e .looked ∷ lookedIn (cellOf (eventOf c e)) 
 abbrev pub roomFor2 : Cell
 roomFor2 = withSlots full (set (set (full .slots) 90 emptySlot) 93 emptySlot)
 
--- and but these three
+-- every slot but these three is full
 abbrev pub roomFor3 : Cell
 roomFor3 = withSlots full (set (roomFor2 .slots) 40 emptySlot)
 
@@ -37,7 +37,7 @@ pub record LookedAt : Type 0 where
       ≡ 0 ∷ 0 ∷ 0 ∷ 3 ∷ 1 ∷ 2 ∷ 0 ∷ 4 ∷ 1 ∷ 2 ∷ 0 ∷ 2 ∷ 0 ∷ 0 ∷ []
   -- one past the last that is filled, with nothing to spare
   pub last-filled : lookedBy roomFor3 (Start 1 50) ≡ 0 ∷ 94 ∷ []
-  -- 13: all 96, whether the walk filled some or none; in a delivery the freed slot is one of them
+  -- 13: all 96, whether the walk filled some or none; in a delivery it had filled the freed slot
   pub all-looked : lookedBy roomFor2 (Start 1 50) ++ lookedBy full (Start 1 50)
       ++ lookedBy full (Deliver 1) ++ lookedBy full (Repeat 0)
       ≡ 13 ∷ 96 ∷ 13 ∷ 96 ∷ 13 ∷ 96 ∷ 13 ∷ 96 ∷ []

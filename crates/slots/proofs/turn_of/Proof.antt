@@ -9,9 +9,9 @@ use Rattle.slots.specs.Parts.{turnOf}
 use Rattle.slots.proofs.turn_of.Statement.{statement}
 use Rattle.slots.proofs.turn_of.Tie as tie
 
-passed-over : (c : tie.Then1)
+no-receiver : (c : tie.Then1)
     → isIn (c .before .before .args .receivers) (c .before .before .args .h) ≡ false
-passed-over c = sym (c .before .is-in .ensures)
+no-receiver c = sym (c .before .is-in .ensures)
     ∙ not-true (c .before .is-in .result) (c .if1 .taken)
 
 receives : (c : tie.Else1)
@@ -32,10 +32,12 @@ turn-of-spec =
     (tie.spec
     (λ c κs. search needs)
     (λ c. search needs)
-    (λ c. rw (passed-over c))
+    (λ c κs. search needs)
+    (λ c. rw (c .passed-over .ensures, no-receiver (c .before)))
     (λ c κs. search needs)
     (λ c. search needs)
-    (λ c. rw (receives (c .before .before), taken c))
+    (λ c κs. search needs)
+    (λ c. rw (c .passed-over2 .ensures, receives (c .before .before .before), taken (c .before)))
     (λ c κs. search needs)
     (λ c. search needs)
     (λ c. search needs)
