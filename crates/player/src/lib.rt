@@ -74,6 +74,7 @@ fn put_script(run: &[u8], out: &mut [u8], from: usize, opened: Answered) -> usiz
         let mut sent = Sent::Nothing;
         let mut receivers: u16 = 0;
         let mut moving: usize = 0;
+        // Whose step is pending, and which slot is freed; n and SLOTS stand for none.
         let mut who = n;
         let mut freed = SLOTS;
         match acts::act_of(e) {

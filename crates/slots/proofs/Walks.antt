@@ -1,17 +1,19 @@
 -- The walk that places, one step at a time, and where it ends: done, or with slots too few, when
 -- what it filled is emptied again. Assumes nothing.
 use mathlib.Core.Path.{_≡_, refl, sym, ap, _∙_}
-use mathlib.Core.Bool.{Bool, true, false, cond}
+use mathlib.Core.Bool.{Bool, true, false, cond, _&&_}
 use mathlib.Core.Logic.{_⊎_, inl, inr}
 use mathlib.Core.List.{List, [], _∷_}
 use Prim.Native.Nat.{ℕ, zero, suc, _+_, _-_, _≤_, _<_}
 use native.Mathlib.Numerals.{add-one}
 use native.Mathlib.Decide.{decLt}
 use native.Mathlib.Omega.{arith}
+use lib.Dec.{ltb}
 use lib.ListN.{length, getD, set, drop, length-set, drop-of-length-le}
 use lib.Seq.{set-set, set-getD, getD-set-same, getD-set-other, drop-set-lt}
+use borrow.Author.Tests.{ltb-true}
 use Rattle.base.proofs.Lists.{from-place}
-use Rattle.base.proofs.Tests.{by-test, true-false}
+use Rattle.base.proofs.Tests.{true-false, both, by-test}
 use Rattle.quorum.specs.Sets.{isIn, membersFrom, members}
 use Rattle.quorum.proofs.Laws.{members-step}
 use Rattle.message.specs.declared.Message.{Message}
@@ -95,6 +97,14 @@ filled (s ∷ ss) (suc i) m h e = go (isEmpty (s .content)) e (λ q. filled ss i
 lowest-filled : (ss : List Slot) (i : ℕ) (m : Message) → i < length ss → lowest ss ≡ i
     → lowest (set ss i (slotWith m)) ≡ (i + 1) + lowest (drop (i + 1) (set ss i (slotWith m)))
 lowest-filled ss i m h e = rw add-one (filled ss i m h e)
+
+-- ---- the test of the loop that places, where it is taken
+
+pub first-below : (h n i : ℕ) → (ltb h n && ltb i slotCount) ≡ true → h < n
+first-below h n i e = ltb-true h n (both (ltb h n) (ltb i slotCount) e .0)
+
+pub slot-below : (h n i : ℕ) → (ltb h n && ltb i slotCount) ≡ true → i < slotCount
+slot-below h n i e = ltb-true i slotCount (both (ltb h n) (ltb i slotCount) e .1)
 
 -- ---- what was filled, emptied again
 

@@ -7,12 +7,11 @@ use mathlib.Core.List.{List}
 use mathlib.Core.Logic.{_⊎_, inl, inr, ⊎-elim}
 use native.Mathlib.Omega.{arith}
 use borrow.Author.Needs.{needs}
-use borrow.Author.Tests.{ltb-true, ltb-false, not-true, not-false}
+use borrow.Author.Tests.{ltb-false, not-true, not-false}
 use lib.Dec.{ltb}
 use lib.ListN.{length, getD, set, length-set}
 use lib.Seq.{set-set, set-getD}
 use Rattle.base.proofs.Lists.{length-mapped}
-use Rattle.base.proofs.Tests.{both}
 use Rattle.state.proofs.StateLimits.{SettingsIn}
 use Rattle.quorum.specs.Sets.{members}
 use Rattle.message.specs.declared.Message.{Message}
@@ -23,7 +22,8 @@ use Rattle.places.proofs.Walks.{advancing-next, advancing-last}
 use Rattle.slots.specs.declared.Slot.{Slot}
 use Rattle.slots.specs.Slots.{emptySlot, placedEach, lookedFor}
 use Rattle.slots.specs.Parts.{emptied}
-use Rattle.slots.proofs.Walks.{Placing, WalksOn, placing-first, placing-turn}
+use Rattle.slots.proofs.Walks.{first-below, slot-below, Placing, WalksOn, placing-first}
+use Rattle.slots.proofs.Walks.{placing-turn}
 use Rattle.slots.proofs.Walks.{Fits, Ends, placing-done, placing-ended, emptied-on, emptied-none}
 use Rattle.cell.specs.declared.Answered.{Answered}
 use Rattle.cell.specs.declared.Cell.{Cell}
@@ -41,13 +41,7 @@ use Rattle.change.proofs.Tables.{committed-sent}
 use Rattle.event.proofs.apply_within.Statement.{statement}
 use Rattle.event.proofs.apply_within.Tie as tie
 
--- what the test of the walk that places says, taken and left
-first-below : (h n i : ℕ) → (ltb h n && ltb i 96) ≡ true → h < n
-first-below h n i e = ltb-true h n (both (ltb h n) (ltb i 96) e .0)
-
-slot-below : (h n i : ℕ) → (ltb h n && ltb i 96) ≡ true → i < 96
-slot-below h n i e = ltb-true i 96 (both (ltb h n) (ltb i 96) e .1)
-
+-- what the test of the walk that places says where it is left
 past : (h n i : ℕ) → (ltb h n && ltb i 96) ≡ false → (n ≤ h) ⊎ (96 ≤ i)
 past h n i e = go (ltb h n) refl e
   where

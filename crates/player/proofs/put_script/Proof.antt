@@ -30,7 +30,7 @@ use Rattle.places.proofs.Each.{each-above, each-next}
 use Rattle.slots.specs.declared.Slot.{Slot}
 use Rattle.slots.specs.Slots.{emptySlot}
 use Rattle.slots.specs.Parts.{emptied}
-use Rattle.slots.proofs.Walks.{Placing, placing-first, emptied-on}
+use Rattle.slots.proofs.Walks.{first-below, slot-below, Placing, placing-first, emptied-on}
 use Rattle.cell.specs.declared.Answered.{Answered}
 use Rattle.cell.specs.declared.Cell.{Cell}
 use Rattle.cell.specs.declared.Event.{Event}
@@ -160,14 +160,7 @@ look-past j t q e = ltb-false j 96 (go (ltb j 96) t q e)
     go true y q e = sym q ∙ e
     go false y q e = refl
 
--- and that of the walk that places
-first-below : (h n j : ℕ) → (ltb h n && ltb j 96) ≡ true → h < n
-first-below h n j e = ltb-true h n (both (ltb h n) (ltb j 96) e .0)
-
-slot-below : (h n j : ℕ) → (ltb h n && ltb j 96) ≡ true → j < 96
-slot-below h n j e = ltb-true j 96 (both (ltb h n) (ltb j 96) e .1)
-
--- it ends with a receiver left where the slots have ended
+-- and that of the walk that places: with a receiver left, the slots have ended
 past : (h n j : ℕ) → h < n → (ltb h n && ltb j 96) ≡ false → 96 ≤ j
 past h n j b e = ltb-false j 96 (rw (lt-ltb h n b) at e)
 
