@@ -1,5 +1,6 @@
 //! The build that follows the documents, and those that are to be turned away, as switches in the
-//! rules: document 01's five, and four that do wrong by document 02's release.
+//! rules: document 01's five, four that do wrong by document 02's release, and three by its rule on
+//! a prepare response whose lease has ended.
 
 /// Which of the documents' sentences a build breaks; the right one breaks none.
 #[derive(Clone, Copy, Debug, Default, PartialEq, Eq)]
@@ -12,6 +13,9 @@ pub struct Build {
     pub keeps_its_round_on_release: bool,
     pub names_itself_until_its_release_comes: bool,
     pub drops_whoever_owns_the_lease: bool,
+    pub forgets_the_kept_lease: bool,
+    pub keeps_an_ended_lease: bool,
+    pub discards_an_ended_response: bool,
     pub skips_by_the_length_field: bool,
 }
 
@@ -24,11 +28,14 @@ pub const RIGHT: Build = Build {
     keeps_its_round_on_release: false,
     names_itself_until_its_release_comes: false,
     drops_whoever_owns_the_lease: false,
+    forgets_the_kept_lease: false,
+    keeps_an_ended_lease: false,
+    discards_an_ended_response: false,
     skips_by_the_length_field: false,
 };
 
-/// Document 01's 'Builds to turn away', in its order, with those of releases before the last.
-pub const WRONG: [(&str, Build); 9] = [
+/// Document 01's 'Builds to turn away', in its order, with those of document 02 before the last.
+pub const WRONG: [(&str, Build); 12] = [
     (
         "accepts without raising its promise",
         Build { accepts_without_raising_its_promise: true, ..RIGHT },
@@ -50,11 +57,26 @@ pub const WRONG: [(&str, Build); 9] = [
         Build { drops_whoever_owns_the_lease: true, ..RIGHT },
     ),
     (
+        "forgets the lease that it kept at a response whose lease has ended",
+        Build { forgets_the_kept_lease: true, ..RIGHT },
+    ),
+    (
+        "keeps a lease that has ended, since its ballot is higher",
+        Build { keeps_an_ended_lease: true, ..RIGHT },
+    ),
+    (
+        "discards a response whose lease has ended, as document 01 has it",
+        Build { discards_an_ended_response: true, ..RIGHT },
+    ),
+    (
         "skips by the length field without comparing it with the kind",
         Build { skips_by_the_length_field: true, ..RIGHT },
     ),
 ];
 
-/// The first so many break a rule of the cell, and lead to two holders; the last one breaks the
-/// reading of records.
-pub const WRONG_RULES: usize = 8;
+/// The first so many break a rule of the cell, and lead to two holders.
+pub const TWO_HOLDERS: usize = 9;
+
+/// So many break a rule of the cell, the last two of them without harm to agreement; the last one
+/// of all breaks the reading of records.
+pub const WRONG_RULES: usize = 11;

@@ -1,5 +1,6 @@
-//! What a comparison has met: answers, stops, what deliveries came to, the turns of releases, and
-//! what became of leases; and whether agreement was ever broken.
+//! What a comparison has met: answers, stops, what deliveries came to, the turns of releases and of
+//! responses whose lease has ended, and what became of leases; and whether agreement was ever
+//! broken.
 
 use crate::agreement::{Agreement, Breach};
 use crate::cell::{Cell, Event};

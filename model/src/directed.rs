@@ -1,5 +1,6 @@
-//! One run for each wrong build, in which it comes to two holders; what differs from seed to seed
-//! is the settings. In the right build each is a run like any other.
+//! One run for each build that breaks a rule, in which it comes to two holders, or to other ones
+//! than the right build; what differs from seed to seed is the settings. In the right build each is
+//! a run like any other.
 
 use crate::builds::Build;
 use crate::cell::{Event, Settings, LAST_TICK};
@@ -28,7 +29,10 @@ pub fn run_in(settings: Settings, of: usize, build: Build) -> Vec<u8> {
         4 => told_of_its_own_lease(&mut driver, duration),
         5 => let_go_in_a_round(&mut driver, duration),
         6 => let_go_by_the_others(&mut driver, duration),
-        _ => let_go_after_the_next(&mut driver, duration),
+        7 => let_go_after_the_next(&mut driver, duration),
+        8 => told_of_an_ended_lease_last(&mut driver, duration),
+        9 => told_of_a_higher_ended_lease(&mut driver, duration),
+        _ => asked_ahead(&mut driver, duration),
     }
     driver.bytes
 }
@@ -182,4 +186,50 @@ fn let_go_after_the_next(driver: &mut Driver, duration: u64) {
     }
     driver.let_go(0, others());
     driver.round(0, duration, others());
+}
+
+/// The lease of the last host has ended for all others, whose clocks are ahead by the whole spread,
+/// and which give the next one to host 0. Host 1 is told of that one first, and last, by the host
+/// behind, of the one that has ended.
+fn told_of_an_ended_lease_last(driver: &mut Driver, duration: u64) {
+    let rules = driver.cell.rules;
+    let behind = rules.n - 1;
+    driver.round(behind, 2, 0..rules.n);
+    driver.advance_all(2);
+    for host in 0..behind {
+        driver.advance_one(host, rules.spread);
+    }
+    driver.round(0, duration, 0..behind);
+    driver.round(1, duration, (1..rules.majority() as u8).chain([behind]));
+}
+
+/// The last host alone has accepted a lease of host 0, and host 0 alone a shorter one of host 1
+/// with a higher ballot. Host 1, ahead by the whole spread, is told of the first and then of the
+/// second, which has ended for it alone.
+fn told_of_a_higher_ended_lease(driver: &mut Driver, duration: u64) {
+    let rules = driver.cell.rules;
+    let last = rules.n - 1;
+    let asked = |driver: &mut Driver, host, duration| {
+        driver.start(host, duration);
+        driver.request(host, Phase::Prepare, 0..last);
+        driver.respond(host, Phase::Prepare, 0..last);
+    };
+    asked(driver, 0, duration);
+    driver.request(0, Phase::Propose, [last]);
+    driver.advance_all(1);
+    asked(driver, 1, 2);
+    driver.request(1, Phase::Propose, [0]);
+    driver.advance_all(2);
+    driver.advance_one(1, rules.spread);
+    driver.round(1, duration, [last].into_iter().chain(0..last));
+}
+
+/// Host 0's lease ends for host 1 alone, ahead by the whole spread, which asks as many hosts as are
+/// a majority.
+fn asked_ahead(driver: &mut Driver, duration: u64) {
+    let rules = driver.cell.rules;
+    driver.round(0, duration, 0..rules.n);
+    driver.advance_all(duration);
+    driver.advance_one(1, rules.spread);
+    driver.round(1, duration, 0..rules.majority() as u8);
 }

@@ -64,7 +64,7 @@ pub enum Case {
     PromisedLease,
     ResponseToNoRound,
     ResponseRepeated,
-    ResponseExpired,
+    ResponseEnded,
     ResponseCounted,
     ProposesOwn,
     ProposesOwnAfterKept,
@@ -101,7 +101,7 @@ impl Case {
         Case::PromisedLease,
         Case::ResponseToNoRound,
         Case::ResponseRepeated,
-        Case::ResponseExpired,
+        Case::ResponseEnded,
         Case::ResponseCounted,
         Case::ProposesOwn,
         Case::ProposesOwnAfterKept,
@@ -285,6 +285,8 @@ impl Host {
         (case, Some(reply(ballot, Body::PrepareResponse(self.accepted))))
     }
 
+    /// 'Count it and keep the reply with the highest accepted ballot, the earlier one at a tie.'
+    /// 'Such a response', one with a lease whose end has come, 'now counts as empty'.
     fn prepare_response(
         &mut self,
         rules: &Rules,
@@ -303,13 +305,19 @@ impl Host {
             Some(replies) => replies,
             None => return Ok((Case::ResponseRepeated, None)),
         };
-        if lease.map_or(false, |lease| lease.end.has_come(self.clock)) {
-            return Ok((Case::ResponseExpired, None));
+        let build = rules.build;
+        let ended = lease.map_or(false, |lease| lease.end.has_come(self.clock));
+        if ended && build.discards_an_ended_response {
+            return Ok((Case::ResponseEnded, None));
         }
-        let kept = highest(kept, lease);
+        let kept = match ended && !build.keeps_an_ended_lease {
+            true => kept.filter(|_| !build.forgets_the_kept_lease),
+            false => highest(kept, lease),
+        };
         if replies.count() < rules.majority() {
             self.round = Round::Asking { ballot: to, own_end, replies, kept };
-            return Ok((Case::ResponseCounted, None));
+            let case = if ended { Case::ResponseEnded } else { Case::ResponseCounted };
+            return Ok((case, None));
         }
         self.propose(rules, to, own_end, kept, room)
     }
@@ -469,7 +477,7 @@ fn reply(ballot: Ballot, body: Body) -> Sending {
     Sending { ballot, body, receivers: Hosts::only(ballot.host) }
 }
 
-/// 'Keep the reply with the highest accepted ballot, the earlier one at a tie.'
+/// The one with the highest ballot, the earlier one at a tie.
 fn highest(kept: Option<Lease>, lease: Option<Lease>) -> Option<Lease> {
     match (kept, lease) {
         (Some(kept), Some(lease)) if lease.ballot > kept.ballot => Some(lease),
@@ -561,6 +569,44 @@ mod tests {
         host.restart(&RULES);
         assert_eq!(told(&mut host, 110), Some(Case::Waits));
         assert_eq!(host.promised, None);
+    }
+
+    /// A prepare response of host 2 to host 1, which asks at 110, has host 1's own reply, and keeps
+    /// that lease; what it comes to, and what is kept or proposed then.
+    fn heard(n: u8, kept: Option<Lease>, lease: Lease) -> (Option<Case>, Round) {
+        let rules = Rules { n, ..RULES };
+        let mut asking = host(1, None, None);
+        let (to, own_end) = (ballot(110, 1), KeepersEnd(165));
+        let replies = Replies { hosts: Hosts::only(1), repeats: 0 };
+        asking.round = Round::Asking { ballot: to, own_end, replies, kept };
+        let body = Body::PrepareResponse(Some(lease));
+        let message = Message { sender: 2, target: 1, ballot: to, body };
+        let case = asking.receive(&rules, &message, ROOM).ok().map(|(case, _)| case);
+        (case, asking.round)
+    }
+
+    #[test]
+    fn a_response_whose_lease_has_ended_counts_as_empty() {
+        let ended = |tick, end| Lease { end: KeepersEnd(end), ..lease(tick, 0) };
+        for before in [None, Some(lease(105, 2))] {
+            for tick in [104, 106] {
+                match heard(5, before, ended(tick, 110)) {
+                    (Some(Case::ResponseEnded), Round::Asking { replies, kept, .. }) => {
+                        assert_eq!((replies.hosts.size(), kept), (2, before));
+                    }
+                    other => panic!("{:?}", other),
+                }
+            }
+        }
+        match heard(5, Some(lease(105, 2)), ended(106, 111)) {
+            (Some(Case::ResponseCounted), Round::Asking { kept, .. }) => {
+                assert_eq!(kept, Some(ended(106, 111)));
+            }
+            other => panic!("{:?}", other),
+        }
+        let proposed = |before| heard(3, before, ended(106, 110)).0;
+        assert_eq!(proposed(None), Some(Case::ProposesOwn));
+        assert_eq!(proposed(Some(lease(105, 2))), Some(Case::ProposesKept));
     }
 
     #[test]

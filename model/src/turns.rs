@@ -1,9 +1,9 @@
-//! The turns that releases take, told from the cell before an event, for the count of what a
-//! comparison has met.
+//! The turns that releases take, and prepare responses whose lease has ended, told from the cell
+//! before an event, for the count of what a comparison has met.
 
 use crate::cell::{Cell, Event};
 use crate::host::{Host, Round};
-use crate::message::{Ballot, Body};
+use crate::message::{Ballot, Body, Lease, Message};
 
 #[derive(Clone, Copy, Debug, PartialEq, Eq)]
 pub enum Turn {
@@ -19,9 +19,13 @@ pub enum Turn {
     SendersHolderAgain,
     SendersHolderHigher,
     AnothersHolder,
+    /// What a response whose lease has ended finds kept by the round that counts it.
+    EndedNoneKept,
+    EndedLowerKept,
+    EndedHigherKept,
 }
 
-pub const TURNS: usize = Turn::AnothersHolder as usize + 1;
+pub const TURNS: usize = Turn::EndedHigherKept as usize + 1;
 
 impl Turn {
     pub const ALL: [Turn; TURNS] = [
@@ -34,6 +38,9 @@ impl Turn {
         Turn::SendersHolderAgain,
         Turn::SendersHolderHigher,
         Turn::AnothersHolder,
+        Turn::EndedNoneKept,
+        Turn::EndedLowerKept,
+        Turn::EndedHigherKept,
     ];
 
     /// The turns of an event, if it is done.
@@ -43,10 +50,8 @@ impl Turn {
                 cell.hosts.get(usize::from(host)).and_then(letting_go).into_iter().collect()
             }
             Event::Deliver { slot } => match cell.slots.get(slot) {
-                Some(message) if message.body == Body::ReleaseRequest => {
-                    found_at(&cell.hosts[usize::from(message.target)], message.ballot)
-                }
-                _ => Vec::new(),
+                Some(message) => delivered_to(&cell.hosts[usize::from(message.target)], message),
+                None => Vec::new(),
             },
             _ => Vec::new(),
         }
@@ -58,6 +63,32 @@ fn letting_go(host: &Host) -> Option<Turn> {
         Round::Idle => None,
         Round::Asking { .. } => Some(Turn::LetsGoAsking),
         Round::Proposing { .. } => Some(Turn::LetsGoProposing),
+    }
+}
+
+fn delivered_to(host: &Host, message: &Message) -> Vec<Turn> {
+    match message.body {
+        Body::ReleaseRequest => found_at(host, message.ballot),
+        Body::PrepareResponse(Some(lease)) if lease.end.has_come(host.clock) => {
+            kept_by(host, message, lease).into_iter().collect()
+        }
+        _ => Vec::new(),
+    }
+}
+
+/// What a response whose lease has ended finds kept, if it is counted.
+fn kept_by(host: &Host, message: &Message, ended: Lease) -> Option<Turn> {
+    match host.round {
+        Round::Asking { ballot, replies, kept, .. }
+            if ballot == message.ballot && !replies.hosts.has(message.sender) && !host.waits() =>
+        {
+            Some(match kept {
+                None => Turn::EndedNoneKept,
+                Some(kept) if kept.ballot < ended.ballot => Turn::EndedLowerKept,
+                Some(_) => Turn::EndedHigherKept,
+            })
+        }
+        _ => None,
     }
 }
 

@@ -6,7 +6,7 @@ use std::path::{Path, PathBuf};
 use std::process::{Command, Output, Stdio};
 use std::thread;
 
-use model::builds::{Build, RIGHT, WRONG, WRONG_RULES};
+use model::builds::{Build, RIGHT, TWO_HOLDERS, WRONG};
 use model::listing::{list, Unwatched};
 
 use crate::arguments::Given;
@@ -22,13 +22,18 @@ pub const HELP: &str = "  --bench PATH   another bench than the proved one, targ
                    round    keeps its round when it lets go
                    itself   names itself until its own release request comes in
                    owner    drops a lease at a release request, whoever owns it
+                   kept     forgets the lease that it kept at a response whose lease has ended
                  in the place of the bench alone, a build that
+                   ended    keeps a lease that has ended, since its ballot is higher
+                   discard  discards a response whose lease has ended, as document 01 has it
                    length   skips by the length field without comparing it with the kind
 ";
 
 /// The wrong builds by short names, in the model's order.
-const WRONG_NAMES: [&str; WRONG.len()] =
-    ["promise", "twice", "keepers", "counter", "learn", "round", "itself", "owner", "length"];
+const WRONG_NAMES: [&str; WRONG.len()] = [
+    "promise", "twice", "keepers", "counter", "learn", "round", "itself", "owner", "kept", "ended",
+    "discard", "length",
+];
 
 /// One wrong build.
 #[derive(Clone, Copy)]
@@ -46,9 +51,9 @@ impl Wrong {
         WRONG[self.of].0
     }
 
-    /// Whether it breaks a rule of the cell, and so leads to two holders.
-    pub fn breaks_a_rule(self) -> bool {
-        self.of < WRONG_RULES
+    /// Whether it breaks a rule of the cell so that it leads to two holders.
+    pub fn leads_to_two_holders(self) -> bool {
+        self.of < TWO_HOLDERS
     }
 
     /// The one that an option names.
@@ -65,8 +70,8 @@ impl Wrong {
 }
 
 /// The two whose listings are compared: who plays, and a build of the model. A wrong build that
-/// breaks a rule of the cell is both, so that what it leads to is two holders; one that breaks the
-/// reading of records is compared with the right one.
+/// leads to two holders is both, so that these are what is found; any other is compared with the
+/// right one.
 pub struct Sides {
     pub player: Player,
     pub model: Build,
@@ -80,7 +85,7 @@ impl Sides {
             return Err(given.unexpected("--wrong or --bench, not both", path));
         }
         Ok(match wrong {
-            Some(build) if build.breaks_a_rule() => {
+            Some(build) if build.leads_to_two_holders() => {
                 Sides { player: Player::Wrong(build), model: build.build(), wrong }
             }
             Some(build) => Sides { player: Player::Wrong(build), model: RIGHT, wrong },

@@ -46,10 +46,7 @@ impl Delivery<'_> {
             Case::ResponseRepeated | Case::AnswerRepeated => {
                 format!("has counted host {} already and ignores it", self.handed.sender)
             }
-            Case::ResponseExpired => {
-                format!("discards it: that end has come, its clock is {}", self.before().clock)
-            }
-            Case::ResponseCounted | Case::AnswerCounted => self.counted(),
+            Case::ResponseEnded | Case::ResponseCounted | Case::AnswerCounted => self.counted(),
             Case::ProposesOwn
             | Case::ProposesOwnAfterKept
             | Case::ProposesOwnLater
@@ -95,27 +92,42 @@ impl Delivery<'_> {
         }
     }
 
+    /// So many replies or votes; and that this one counts as empty, if its lease has ended.
+    fn counts(&self, count: u32) -> String {
+        let clock = self.before().clock;
+        let as_empty = match self.handed.body {
+            Body::PrepareResponse(Some(lease)) if lease.end.has_come(clock) => {
+                format!(", as empty since that end has come by its clock, {},", clock)
+            }
+            _ => String::new(),
+        };
+        format!("counts {} of {}{}", count, self.account.after.rules.majority(), as_empty)
+    }
+
     fn counted(&self) -> String {
         let (count, kept) = match self.after().round {
             Round::Asking { replies, kept, .. } => (replies.count(), kept),
             Round::Proposing { replies, .. } => (replies.count(), None),
             Round::Idle => (0, None),
         };
+        let ended = self.case == Case::ResponseEnded;
         let kept = match kept {
+            Some(kept) if ended => format!(" and goes on keeping {}", lease(&kept)),
+            None if ended => " and keeps nothing".into(),
             Some(_) if self.handed.body == Body::PrepareResponse(kept) => {
                 ", and keeps that lease".into()
             }
             Some(kept) => format!(", and goes on keeping {}", lease(&kept)),
             None => String::new(),
         };
-        format!("counts {} of {}{}", count, self.account.after.rules.majority(), kept)
+        format!("{}{}", self.counts(count), kept)
     }
 
     /// A majority of prepare responses.
     fn asked(&self) -> String {
-        let majority = format!("counts {0} of {0}", self.account.after.rules.majority());
+        let majority = self.counts(self.account.after.rules.majority());
         let why = match self.case {
-            Case::ProposesOwn => "no reply had a lease",
+            Case::ProposesOwn => "no reply had a lease to keep",
             Case::ProposesOwnAfterKept => "the lease that it kept has ended",
             Case::ProposesOwnLater => "the lease that it kept is its own, and this end is later",
             Case::ProposesOwnAsKept => "the lease that it kept is its own, and ends no sooner",
@@ -137,7 +149,7 @@ impl Delivery<'_> {
     /// A majority of propose responses.
     fn chosen(&self) -> String {
         let rules = self.account.after.rules;
-        let majority = format!("counts {0} of {0}", rules.majority());
+        let majority = self.counts(rules.majority());
         let old = self.before();
         if self.case == Case::ChosenTooLate {
             let late = format!("its clock, {}, and S, {}", old.clock, rules.spread);

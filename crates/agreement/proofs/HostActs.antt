@@ -105,14 +105,15 @@ not-over n (Accepted.One a) Accepted.Nothing l g p = absurd p
 not-over n (Accepted.One a) (Accepted.One b) l g p =
     omega (arith, not-above-code (a .ballot) (b .ballot) (omega (arith, accepted-in n a g .host)) p)
 
-higher : (n : ℕ) {k a h : Accepted} → n ≤ 9 → acceptedOk n k ≡ true → acceptedOk n a ≡ true
-    → R.Higher k a h
-    → ((asLease h ≡ asLease k) ⊎ (asLease h ≡ asLease a))
-    × M.Higher (asLease k) (asLease a) (asLease h)
-higher n {k} {a} l g e (R.earlier p) =
-    (inl refl, record { over-kept = le-refl _; over-reply = not-over n a k l e p })
-higher n {k} {a} l g e (R.later p) =
-    (inr refl, record { over-kept = not-over n k a l g p; over-reply = le-refl _ })
+keeps : (n : ℕ) {clock : ℕ} {k a h : Accepted} → n ≤ 9 → acceptedOk n k ≡ true
+    → acceptedOk n a ≡ true → R.Keeping clock k a h
+    → M.Keeps clock (asLease k) (asLease a) (asLease h)
+keeps n {clock} {k} {a} l g e (R.asSent (R.earlier p)) =
+    M.asSent (inl refl) (record { over-kept = le-refl _; over-reply = not-over n a k l e p })
+keeps n {clock} {k} {a} l g e (R.asSent (R.later p)) =
+    M.asSent (inr refl) (record { over-kept = not-over n k a l g p; over-reply = le-refl _ })
+keeps n l g e (R.asEmpty r t) =
+    M.asEmpty _ refl t (inl refl) (record { over-kept = le-refl _; over-reply = omega arith })
 
 -- the lease to propose is one that the theory lets a host propose
 choice : {number clock : ℕ} {own : KeepersEnd} {a : Accepted} {c : Value}
@@ -289,17 +290,16 @@ module _ (s : Settings) (Calm : Type 0) (h : Host) (i : HostIn s h) {w : World (
 
   hears : (a : Asking) (d : Head) (reply : Accepted) → Heard s h (Caused s Calm h w) a d reply
       → Acted s Calm w (h .number)
-      (quietWith (withRound h (Round.Asking (askingAfter a (d .sender) reply))))
+      (quietWith (withRound h (Round.Asking (askingAfter (h .clock) a (d .sender) reply))))
   unfolding askingAfter
   hears a d reply x =
-      let more =
-      higher (s .n) few (asking-held s h i a (x .round) .kept) (reply-in s (x .is) (x .got .0) .1)
-      (R.higher-kept (a .kept) reply) in
       acted-once s Calm e _ none
       (M.hear (code (a .ballot)) (a .duration) (a .replied) _ (asLease (a .kept)) (asLease reply) _
       (d .sender) (ap (asRound s) (x .round))
       (rw (same-code (a .ballot) (d .ballot) (x .same), ← reply-is (x .is)) (x .got .1))
-      (one-more (a .replied) (d .sender)) (more .0) (more .1)) (λ _. omega arith) refl tt
+      (one-more (a .replied) (d .sender))
+      (keeps (s .n) few (asking-held s h i a (x .round) .kept) (reply-in s (x .is) (x .got .0) .1)
+      (R.keeping (h .clock) (a .kept) reply))) (λ _. omega arith) refl tt
 
   counts-vote : (p : Proposing) (d : Head) → Voted s h (Caused s Calm h w) p d
       → Acted s Calm w (h .number)
@@ -349,7 +349,7 @@ module _ (s : Settings) (Calm : Type 0) (h : Host) (i : HostIn s h) {w : World (
   acts-by (proposed a d reply x t) =
       let r = reply-in s (x .is) (x .got .0) in
       let j = counted-in s h i a d reply (x .round) (r .0) (r .1) in
-      let b = askingAfter a (d .sender) reply in
+      let b = askingAfter (h .clock) a (d .sender) reply in
       let a =
       proposes-now s Calm (withRound h (Round.Asking b)) (hears a d reply x .stands) b refl
       (omega (arith, j .host, i .number, few))

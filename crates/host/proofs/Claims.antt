@@ -10,7 +10,8 @@ use Rattle.host.specs.Steps.{refusedWith, stepWith, startRefusal, startO
 use Rattle.host.specs.Steps.{releaseOf, receiveRefusal, receiveOf}
 use Rattle.host.specs.Claims.{Stays, Claims}
 use Rattle.host.proofs.Writable.{writable-each}
-use Rattle.host.proofs.Refusals.{already-empty, already-lease, already-vote, own-learn}
+use Rattle.host.proofs.Refusals.{already-empty, already-lease, already-vote}
+use Rattle.host.proofs.Refusals.{ended-as-empty, own-learn}
 use Rattle.host.proofs.Outcomes.{begins, letsGo, gets, stays-step}
 use Rattle.host.proofs.Within.{lawful-advance, lawful-restart, lawful-start, lawful-release}
 use Rattle.host.proofs.Within.{lawful-message}
@@ -37,6 +38,7 @@ claims = record {
   empty-once = already-empty;
   lease-once = already-lease;
   vote-once = already-vote;
+  ended-as-empty = ended-as-empty;
   own-learn = own-learn;
   majority-names = majority-names;
 }

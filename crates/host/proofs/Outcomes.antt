@@ -19,7 +19,7 @@ use Rattle.message.specs.Message.{isSame}
 use Rattle.rules.specs.declared.Accepted.{Accepted}
 use Rattle.rules.specs.declared.Promised.{Promised}
 use Rattle.rules.specs.declared.Holder.{Holder}
-use Rattle.rules.specs.Rules.{isWaiting, mayPromise, countsReply, hasEnded, actsOn, mayAccept}
+use Rattle.rules.specs.Rules.{isWaiting, mayPromise, countsReply, actsOn, mayAccept}
 use Rattle.rules.specs.Rules.{afterAccept, isNamable, mayLearn, namedBy, takesRelease}
 use Rattle.state.specs.declared.Settings.{Settings}
 use Rattle.state.specs.declared.Asking.{Asking}
@@ -112,15 +112,16 @@ module _ (s : Settings) (h : Host) (Known : Cause → Type 0) where
         (responseWith (headFrom h (m .ballot)) (h .state .accepted)) (singleOf (m .ballot .host)))
     heard :
         (a : Asking) (d : Head) (reply : Accepted) → Heard a d reply
-        → actsOn (s .n) (a .replied) (askingAfter a (d .sender) reply .replied) ≡ false →
-        Outcome (quietWith (withRound h (Round.Asking (askingAfter a (d .sender) reply))))
+        → actsOn (s .n) (a .replied) (askingAfter (h .clock) a (d .sender) reply .replied) ≡ false →
+        Outcome
+        (quietWith (withRound h (Round.Asking (askingAfter (h .clock) a (d .sender) reply))))
     proposed :
         (a : Asking) (d : Head) (reply : Accepted) → Heard a d reply
-        → actsOn (s .n) (a .replied) (askingAfter a (d .sender) reply .replied) ≡ true →
+        → actsOn (s .n) (a .replied) (askingAfter (h .clock) a (d .sender) reply .replied) ≡ true →
         Outcome
         (sendingWith
-        (withRound h (Round.Proposing (proposes s h (askingAfter a (d .sender) reply))))
-        (proposal s h (askingAfter a (d .sender) reply)) (everyoneOf (s .n)))
+        (withRound h (Round.Proposing (proposes s h (askingAfter (h .clock) a (d .sender) reply))))
+        (proposal s h (askingAfter (h .clock) a (d .sender) reply)) (everyoneOf (s .n)))
     gaveUp : Outcome (quietWith (withRound h Round.Idle))
     accepted :
         (m : Proposal) → Known (gets (ProposeRequest m)) → isWaiting (h .clock) (h .wait) ≡ false
@@ -158,17 +159,16 @@ module _ (s : Settings) (h : Host) (Known : Cause → Type 0) where
       (λ e.
       let x : Heard a d reply = record { message = m; is = i; got = g; round = z; same = e } in
       by-test Outcome (countsReply (a .replied) (d .sender)) _ _
-      (λ _. by-test Outcome (hasEnded (h .clock) reply) _ _ (λ _. nothing)
       (λ _. by-test Outcome (actsOn (s .n) (a .replied) (b .replied)) _ _
       (λ t.
       by-test Outcome (leb (proposedValue s h b .end .0) (h .clock)) _ _ (λ _. gaveUp)
       (λ _. proposed a d reply x t))
-      (λ t. heard a d reply x t)))
+      (λ t. heard a d reply x t))
       (λ _. nothing))
       (λ _. nothing)
     where
       b : Asking
-      b = askingAfter a (d .sender) reply
+      b = askingAfter (h .clock) a (d .sender) reply
 
   vote : (d : Head) → Known (gets (ProposeResponse d)) → (r : Round) → h .state .round ≡ r
       → Outcome (onProposeResponse s h r d)

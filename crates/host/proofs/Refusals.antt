@@ -1,5 +1,6 @@
--- What a step that refuses nothing tells of its host and of what it is handed, and that a reply of
--- a host that was counted changes nothing, nor a learn that names its receiver. Assumes nothing.
+-- What a step that refuses nothing tells of its host and of what it is handed; that a reply of a
+-- host that was counted changes nothing, nor a learn that names its receiver; and that a reply
+-- whose lease has ended counts as empty. Assumes nothing.
 use mathlib.Core.Path.{_≡_, refl, sym, ap, _∙_}
 use mathlib.Core.Bool.{Bool, true, false, cond, not}
 use mathlib.Core.List.{[]}
@@ -11,6 +12,7 @@ use Rattle.base.specs.Refusals.{done, firstOf, refusedCell, refusedWaiting, ref
 use Rattle.base.specs.Refusals.{refusedSameTick, refusedClock, refusedNotHolder}
 use Rattle.base.proofs.Tests.{by-test, first-passed, unless-passed}
 use Rattle.quorum.specs.Sets.{isIn}
+use Rattle.message.specs.declared.Lease.{Lease}
 use Rattle.message.specs.declared.Head.{Head}
 use Rattle.message.specs.declared.LeaseResponse.{LeaseResponse}
 use Rattle.message.specs.declared.LearnedLease.{LearnedLease}
@@ -21,7 +23,7 @@ use Rattle.message.specs.Message.{lastTick, isSame, numbersOf}
 use Rattle.message.specs.Faults.{faultOf}
 use Rattle.rules.specs.declared.Accepted.{Accepted}
 use Rattle.rules.specs.Rules.{isWaiting, isFresh, mayLearn, namesItself}
-use Rattle.rules.proofs.Laws.{awake}
+use Rattle.rules.proofs.Laws as R
 use Rattle.state.specs.declared.Settings.{Settings}
 use Rattle.state.specs.declared.Asking.{Asking}
 use Rattle.state.specs.declared.Proposing.{Proposing}
@@ -30,9 +32,9 @@ use Rattle.state.specs.StateLimits.{durationOk, sizesOf}
 use Rattle.host.specs.declared.Host.{Host}
 use Rattle.host.specs.declared.Stepped.{Stepped}
 use Rattle.host.specs.Steps.{hostOk, refusedWith, quietWith, advanceRefusal, restartRefusal}
-use Rattle.host.specs.Steps.{startRefusal, releaseRefusal, onReply, onPrepareResponse}
-use Rattle.host.specs.Steps.{onVote, onProposeResponse, onLearn, onMessage, onDelivery}
-use Rattle.host.specs.Steps.{receiveRefusal, receiveOf}
+use Rattle.host.specs.Steps.{startRefusal, releaseRefusal, askingAfter, onReply}
+use Rattle.host.specs.Steps.{onPrepareResponse, onVote, onProposeResponse, onLearn, onMessage}
+use Rattle.host.specs.Steps.{onDelivery, receiveRefusal, receiveOf}
 use Rattle.host.proofs.HostLimits.{HostIn, host-in}
 
 -- ---- where nothing is refused
@@ -68,7 +70,7 @@ start-in s h d e =
     let some = eqb-false d 0 (not-true (eqb d 0) (p3 .0)) in
     record {
       host = host-in s h (p1 .0);
-      awake = awake (h .clock) (h .wait) (not-true (isWaiting (h .clock) (h .wait)) (p2 .0));
+      awake = R.awake (h .clock) (h .wait) (not-true (isWaiting (h .clock) (h .wait)) (p2 .0));
       some-time = omega (arith, some);
       duration = leb-true (d + s .spread) (s .longest) (p4 .0);
       fresh = p5 .0;
@@ -90,7 +92,7 @@ release-in s h e =
     let p4 = unless-passed (isFresh (h .state .last) (h .clock)) refusedSameTick [] refl (p3 .1) in
     record {
       host = host-in s h (p1 .0);
-      awake = awake (h .clock) (h .wait) (not-true (isWaiting (h .clock) (h .wait)) (p2 .0));
+      awake = R.awake (h .clock) (h .wait) (not-true (isWaiting (h .clock) (h .wait)) (p2 .0));
       itself = p3 .0;
       fresh = p4 .0;
     }
@@ -172,7 +174,21 @@ already-vote s h p m r e =
     still s h (ProposeResponse m)
     (ap (λ (x : Round). onProposeResponse s h x m) r ∙ voted-already s h p m e)
 
--- ---- nor does a learn message that names its receiver
+-- ---- a reply whose lease has ended counts as empty
+
+heard-as-empty : (s : Settings) (h : Host) (r : Round) (m : Head) (l : Lease) → l .end .0 ≤ h .clock
+    → onPrepareResponse s h r m (Accepted.One l) ≡ onPrepareResponse s h r m Accepted.Nothing
+unfolding onPrepareResponse onReply askingAfter
+heard-as-empty s h Round.Idle m l e = refl
+heard-as-empty s h (Round.Asking a) m l e = rw (R.ended-as-empty (h .clock) (a .kept) l e)
+heard-as-empty s h (Round.Proposing p) m l e = refl
+
+pub ended-as-empty : (s : Settings) (h : Host) (m : LeaseResponse) → m .accepted .end .0 ≤ h .clock
+    → onDelivery s h (PrepareResponseLease m) ≡ onDelivery s h (PrepareResponseEmpty (m .head))
+unfolding onDelivery onMessage
+ended-as-empty s h m e = rw (heard-as-empty s h (h .state .round) (m .head) (m .accepted) e)
+
+-- ---- a learn message that names its receiver changes nothing
 
 pub own-learn : (s : Settings) (h : Host) (m : LearnedLease) → m .owner ≡ h .number
     → receiveOf s h (Learn m) ≡ refusedWith (receiveRefusal s h (Learn m)) h

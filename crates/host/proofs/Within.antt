@@ -37,7 +37,7 @@ use Rattle.state.proofs.StateLimits.{out-named, AskingIn, asking-in, out-asking
 use Rattle.state.proofs.StateLimits.{proposing-in, out-proposing, StateIn, state-in, out-state}
 use Rattle.state.specs.Releasing.{voteOf}
 use Rattle.state.proofs.Blank.{blank-fits}
-use Rattle.state.proofs.RulesKeep.{aged-in, kept-higher, kept-replied, value-in, kept-naming}
+use Rattle.state.proofs.RulesKeep.{aged-in, kept-reply, kept-replied, value-in, kept-naming}
 use Rattle.state.proofs.RulesKeep.{own-last, kept-lease, kept-holder}
 use Rattle.host.specs.declared.Host.{Host}
 use Rattle.host.specs.declared.Stepped.{Stepped}
@@ -230,7 +230,7 @@ module _ (s : Settings) (h : Host) (i : HostIn s h) where
 
   pub counted-in : (a : Asking) (d : Head) (reply : Accepted) → h .state .round ≡ Round.Asking a
       → d .sender < s .n → acceptedOk (s .n) reply ≡ true
-      → AskingIn s (h .number) (askingAfter a (d .sender) reply)
+      → AskingIn s (h .number) (askingAfter (h .clock) a (d .sender) reply)
   unfolding askingAfter
   counted-in a d reply z b e =
       let j = asking-held a z in
@@ -239,7 +239,7 @@ module _ (s : Settings) (h : Host) (i : HostIn s h) where
         tick = j .tick;
         duration = j .duration;
         replied = kept-replied (s .n) (a .replied) (d .sender) (j .replied) b;
-        kept = kept-higher (s .n) (R.higher-kept (a .kept) reply) (j .kept) e;
+        kept = kept-reply (s .n) (R.keeping (h .clock) (a .kept) reply) (j .kept) e;
       }
 
   pub voted-in : (p : Proposing) (d : Head) → h .state .round ≡ Round.Proposing p → d .sender < s .n
@@ -254,7 +254,7 @@ module _ (s : Settings) (h : Host) (i : HostIn s h) where
       }
 
   heard-in : (a : Asking) (d : Head) (reply : Accepted) → Heard s h (Passes s h) a d reply
-      → AskingIn s (h .number) (askingAfter a (d .sender) reply)
+      → AskingIn s (h .number) (askingAfter (h .clock) a (d .sender) reply)
   heard-in a d reply x =
       let r = reply-in s (x .is) (x .got) in counted-in a d reply (x .round) (r .0) (r .1)
 
@@ -332,7 +332,7 @@ module _ (s : Settings) (h : Host) (i : HostIn s h) where
       (kept-round s h _ i (out-asking s (h .number) _ (i .number) (heard-in a d reply x)))
   fine (proposed a d reply x _) =
       let j = heard-in a d reply x in
-      let b = askingAfter a (d .sender) reply in
+      let b = askingAfter (h .clock) a (d .sender) reply in
       let l : BallotIn (s .n) (b .ballot) =
       record { tick = j .tick; host = rw (j .host) (i .number) } in
       let c =

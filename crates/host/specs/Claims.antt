@@ -1,6 +1,6 @@
 -- What is claimed of the steps of one host, in one place; proofs/Claims.antt proves it. Assumes
 -- nothing.
-use Prim.Native.Nat.{ℕ}
+use Prim.Native.Nat.{ℕ, _≤_}
 use mathlib.Core.Path.{_≡_}
 use mathlib.Core.Bool.{Bool, true, false, not}
 use mathlib.Core.List.{[], _∷_}
@@ -129,6 +129,11 @@ pub record Claims : Type 0 where
   pub vote-once : (s : Settings) (h : Host) (p : Proposing) (m : Head)
       → h .state .round ≡ Round.Proposing p → isIn (p .replied) (m .sender) ≡ true
       → let r = ProposeResponse m in receiveOf s h r ≡ refusedWith (receiveRefusal s h r) h
+  -- 'such a response now counts as empty' (02): one whose lease has ended at the receiver's clock
+  -- does what an empty one does, in every state
+  pub ended-as-empty : (s : Settings) (h : Host) (m : LeaseResponse)
+      → m .accepted .end .0 ≤ h .clock
+      → onDelivery s h (PrepareResponseLease m) ≡ onDelivery s h (PrepareResponseEmpty (m .head))
   -- a learn message that names its own receiver changes nothing, in every state
   pub own-learn : (s : Settings) (h : Host) (m : LearnedLease) → m .owner ≡ h .number
       → let r = Learn m in receiveOf s h r ≡ refusedWith (receiveRefusal s h r) h

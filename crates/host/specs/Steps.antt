@@ -26,7 +26,7 @@ use Rattle.rules.specs.declared.Named.{Named}
 use Rattle.rules.specs.declared.Holder.{Holder}
 use Rattle.rules.specs.declared.Value.{Value}
 use Rattle.rules.specs.Rules.{isWaiting, waitEnd, ballotAt, isFresh, mayPromise, countsReply}
-use Rattle.rules.specs.Rules.{hasEnded, higherOf, actsOn, ownEnd, valueToPropose, mayAccept}
+use Rattle.rules.specs.Rules.{keptAfter, actsOn, ownEnd, valueToPropose, mayAccept}
 use Rattle.rules.specs.Rules.{afterAccept, isNamable, mayLearn, namedBy, namesItself}
 use Rattle.rules.specs.Rules.{takesRelease}
 use Rattle.state.specs.declared.Settings.{Settings}
@@ -250,14 +250,14 @@ onPrepareRequest h m =
 
 -- ---- prepare response
 
--- 'count it and keep the reply with the highest accepted ballot'
-unfoldable pub askingAfter : Asking → ℕ → Accepted → Asking
-askingAfter a sender reply =
+-- 'count it and keep the reply with the highest accepted ballot', at this clock of the receiver
+unfoldable pub askingAfter : ℕ → Asking → ℕ → Accepted → Asking
+askingAfter clock a sender reply =
     record {
       ballot = a .ballot;
       duration = a .duration;
       replied = withHost (a .replied) sender;
-      kept = higherOf (a .kept) reply;
+      kept = keptAfter clock (a .kept) reply;
     }
 
 -- 'if the resulting end is at or below its clock the round becomes idle; else it is proposing and
@@ -283,15 +283,12 @@ onCountedReply s h before a =
     cond (actsOn (s .n) before (a .replied)) (onMajority s h (a .ballot) (proposedValue s h a))
     (quietWith (withRound h (Round.Asking a)))
 
--- 'to the ballot being asked, from a host not yet counted: if it carries a lease whose end is at or
--- below the receiver's clock, it is discarded'
+-- 'to the ballot being asked, from a host not yet counted'
 unfoldable pub onReply : Settings → Host → Asking → Head → Accepted → Stepped
 onReply s h a m reply =
     cond (isSame (a .ballot) (m .ballot))
     (cond (countsReply (a .replied) (m .sender))
-    (cond (hasEnded (h .clock) reply) (quietWith h)
-    (onCountedReply s h (a .replied) (askingAfter a (m .sender) reply)))
-    (quietWith h))
+    (onCountedReply s h (a .replied) (askingAfter (h .clock) a (m .sender) reply)) (quietWith h))
     (quietWith h)
 
 -- a response to a host that asks nothing is nothing

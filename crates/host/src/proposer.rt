@@ -26,19 +26,19 @@ use state::Round;
 use state::Settings;
 use state::State;
 
-// One more reply is counted, and the higher accepted lease kept.
-fn asking_after(a: Asking, sender: u8, reply: Accepted) -> Asking
+// One more reply is counted, and the higher accepted lease kept; one that has ended is as none.
+fn asking_after(clock: u64, a: Asking, sender: u8, reply: Accepted) -> Asking
     requires { ⌜ sender < 16 ⌝ }
-    ensures { λ r. ⌜ r ≡ askingAfter a sender reply ⌝ }
+    ensures { λ r. ⌜ r ≡ askingAfter clock a sender reply ⌝ }
 {
     let ballot = a.ballot;
-    let kept = a.kept;
-    let higher = rules::higher_of(kept, reply);
+    let before = a.kept;
+    let kept = rules::kept_after(clock, before, reply);
     Asking {
         ballot,
         duration: a.duration,
         replied: quorum::with_host(a.replied, sender),
-        kept: higher,
+        kept,
     }
 }
 
@@ -142,10 +142,7 @@ impl Host {
         if !rules::counts_reply(a.replied, m.sender) {
             return quiet_with(self);
         }
-        if rules::has_ended(self.clock, reply) {
-            return quiet_with(self);
-        }
-        self.on_counted_reply(s, a.replied, asking_after(a, m.sender, reply))
+        self.on_counted_reply(s, a.replied, asking_after(self.clock, a, m.sender, reply))
     }
 
     // A reply is nothing to a host that asks nothing.

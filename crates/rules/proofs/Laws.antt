@@ -27,7 +27,7 @@ use Rattle.rules.specs.declared.Value.{Value}
 use Rattle.rules.specs.declared.Vote.{Vote}
 use Rattle.rules.specs.Rules.{isWaiting, waitEnd, leaseOver, acceptedAt, holderOver, namedAt}
 use Rattle.rules.specs.Rules.{ballotAt, isFresh, mayPromise, countsReply, hasEnded}
-use Rattle.rules.specs.Rules.{replacesKept, higherOf, actsOn, value, ownIsLater}
+use Rattle.rules.specs.Rules.{replacesKept, higherOf, keptAfter, actsOn, value, ownIsLater}
 use Rattle.rules.specs.Rules.{valueToPropose, isForbidden, mayAccept, afterAccept}
 use Rattle.rules.specs.Rules.{namingBound, isNamable, mayLearn, namedBy, namesItself}
 use Rattle.rules.specs.Rules.{takesRelease, isFreed, freedLease, freedHolder, afterRelease}
@@ -114,10 +114,10 @@ promise-rises p b e = e
 pub counted-once : (replied h : ℕ) → countsReply (withHost replied h) h ≡ false
 counted-once replied h = ap (λ (b : ℕ). not (eqb b 1)) (with-same replied h)
 
--- a reply whose lease has ended is discarded
-pub discarded : (clock : ℕ) (l : Lease) → l .end .0 ≤ clock → hasEnded clock (Accepted.One l) ≡ true
+-- the end of a lease has come where it is at or below the clock
+come : (clock : ℕ) (l : Lease) → l .end .0 ≤ clock → hasEnded clock (Accepted.One l) ≡ true
 unfolding hasEnded
-discarded clock l h = le-leb (l .end .0) clock h
+come clock l h = le-leb (l .end .0) clock h
 
 -- at a tie the earlier reply is kept
 pub earlier-kept : (a b : Lease) → a .ballot ≡ b .ballot
@@ -143,6 +143,33 @@ higher-kept (Accepted.One a) Accepted.Nothing = earlier tt
 higher-kept (Accepted.One a) (Accepted.One b) =
     by-test (Higher (Accepted.One a) (Accepted.One b)) (replacesKept a b) _ _
     (λ t. later (above-one-way _ _ t)) (λ t. earlier t)
+
+-- an empty reply leaves what was kept
+empty-leaves : (clock : ℕ) (kept : Accepted) → keptAfter clock kept Accepted.Nothing ≡ kept
+unfolding keptAfter hasEnded higherOf
+empty-leaves clock Accepted.Nothing = refl
+empty-leaves clock (Accepted.One a) = refl
+
+-- a reply whose lease has ended counts as empty, whatever its ballot
+pub ended-as-empty : (clock : ℕ) (kept : Accepted) (l : Lease) → l .end .0 ≤ clock
+    → keptAfter clock kept (Accepted.One l) ≡ keptAfter clock kept Accepted.Nothing
+unfolding keptAfter
+ended-as-empty clock kept l h = rw (come clock l h) (sym (empty-leaves clock kept))
+
+-- what is kept after one more reply is the higher of the two, or what was kept where the reply's
+-- lease has ended
+pub data Keeping (clock : ℕ) (kept : Accepted) : Accepted → Accepted → Type 0 where
+  asSent : {reply k : Accepted} → Higher kept reply k → Keeping clock kept reply k
+  asEmpty : (l : Lease) → l .end .0 ≤ clock → Keeping clock kept (Accepted.One l) kept
+
+pub keeping : (clock : ℕ) (kept reply : Accepted)
+    → Keeping clock kept reply (keptAfter clock kept reply)
+unfolding keptAfter hasEnded
+keeping clock kept Accepted.Nothing = asSent (higher-kept kept Accepted.Nothing)
+keeping clock kept (Accepted.One l) =
+    by-test (Keeping clock kept (Accepted.One l)) (leb (l .end .0) clock) _ _
+    (λ t. asEmpty l (leb-true (l .end .0) clock t))
+    (λ _. asSent (higher-kept kept (Accepted.One l)))
 
 -- a round acts on the one reply that makes its set a majority
 pub acts-majority : (n before after : ℕ) → actsOn n before after ≡ true

@@ -68,7 +68,7 @@ mayPromise (Promised.To p) b = isAbove b p
 abbrev pub countsReply : ℕ → ℕ → Bool
 countsReply replied sender = not (isIn replied sender)
 
--- 'a lease whose end is at or below the receiver's clock' is discarded (001, rule 5)
+-- the reply carries 'a lease whose end is at or below the receiver's clock'
 unfoldable pub hasEnded : ℕ → Accepted → Bool
 hasEnded clock Accepted.Nothing = false
 hasEnded clock (Accepted.One l) = leb (l .end .0) clock
@@ -82,6 +82,10 @@ higherOf Accepted.Nothing reply = reply
 higherOf (Accepted.One a) Accepted.Nothing = Accepted.One a
 higherOf (Accepted.One a) (Accepted.One b) =
     cond (replacesKept a b) (Accepted.One b) (Accepted.One a)
+
+-- 'such a response now counts as empty' (02; 004, algorithm 3, line 3): what was kept stays
+unfoldable pub keptAfter : ℕ → Accepted → Accepted → Accepted
+keptAfter clock kept reply = cond (hasEnded clock reply) kept (higherOf kept reply)
 
 -- 'when the count reaches a majority': the set is one, and was none before
 unfoldable pub actsOn : ℕ → ℕ → ℕ → Bool

@@ -6,10 +6,10 @@ ghost use Prim.Native.Nat.{_<_, _≤_, _^_};
 ghost use Rattle.message.specs.Message.{lastTick};
 ghost use Rattle.rules.specs.Rules.{mayPromise, isForbidden, mayAccept, acceptedAt, namedAt};
 ghost use Rattle.rules.specs.Rules.{hasEnded, waitEnd, ballotAt, isFresh, countsReply};
-ghost use Rattle.rules.specs.Rules.{higherOf, ownEnd, valueToPropose, actsOn, isNamable};
-ghost use Rattle.rules.specs.Rules.{namedBy, afterAccept, isWaiting, mayLearn, namesItself};
-ghost use Rattle.rules.specs.Rules.{takesRelease, isFreed, freedLease, freedHolder};
-ghost use Rattle.rules.specs.Rules.{afterRelease};
+ghost use Rattle.rules.specs.Rules.{higherOf, keptAfter, ownEnd, valueToPropose, actsOn};
+ghost use Rattle.rules.specs.Rules.{isNamable, namedBy, afterAccept, isWaiting, mayLearn};
+ghost use Rattle.rules.specs.Rules.{namesItself, takesRelease, isFreed, freedLease};
+ghost use Rattle.rules.specs.Rules.{freedHolder, afterRelease};
 use message::Ballot;
 use message::Head;
 use message::HoldersEnd;
@@ -169,7 +169,7 @@ pub fn after_accept(lease: Lease) -> Vote
 }
 
 // Whether a reply carries a lease whose end has come.
-pub fn has_ended(clock: u64, a: Accepted) -> bool
+fn has_ended(clock: u64, a: Accepted) -> bool
     ensures { λ r. ⌜ r ≡ hasEnded clock a ⌝ }
 {
     match a {
@@ -187,7 +187,7 @@ pub fn counts_reply(replied: u16, sender: u8) -> bool
 }
 
 // The reply with the highest accepted ballot, the earlier one at a tie.
-pub fn higher_of(kept: Accepted, reply: Accepted) -> Accepted
+fn higher_of(kept: Accepted, reply: Accepted) -> Accepted
     ensures { λ r. ⌜ r ≡ higherOf kept reply ⌝ }
 {
     match kept {
@@ -202,6 +202,16 @@ pub fn higher_of(kept: Accepted, reply: Accepted) -> Accepted
             }
         },
     }
+}
+
+// What a round keeps after one more reply: one whose lease has ended counts as empty.
+pub fn kept_after(clock: u64, kept: Accepted, reply: Accepted) -> Accepted
+    ensures { λ r. ⌜ r ≡ keptAfter clock kept reply ⌝ }
+{
+    if has_ended(clock, reply) {
+        return kept;
+    }
+    higher_of(kept, reply)
 }
 
 // Whether a round acts: the reply made the set a majority, and it was none before.

@@ -57,6 +57,18 @@ fn main() {
         b"restart_after_promise.run",
         b"a restart between a promise and its acceptance",
     );
+    // Host 2 is down, and host 0's lease has ended for host 1 alone, at 160 and S ahead. Host 0's
+    // reply with it counts as empty, and host 1 names itself.
+    show(
+        b"fast_clock.run",
+        b"a fast clock asks just after a lease has ended for it alone",
+    );
+    // Host 1 is told of a lease and then of one that has ended by its clock, of a lower ballot, and
+    // later of a higher one: what it kept stays, and is proposed.
+    show(
+        b"ended_replies.run",
+        b"replies whose lease has ended, beside one that is kept",
+    );
     // Host 0 lets go while it proposes to renew. The late votes, a majority, find no round, and the
     // late proposal is below the promise of the release: nothing keeps host 1 from the lease.
     show(

@@ -15,8 +15,9 @@ use Rattle.rules.specs.declared.Holder.{Holder}
 use Rattle.rules.specs.declared.Value.{Value}
 use Rattle.rules.specs.Rules.{ownEnd}
 use Rattle.rules.proofs.Laws.{LeaseLeft, empty, over, live, lease-aged, HolderLeft, nobody, dropped}
-use Rattle.rules.proofs.Laws.{stays, holder-aged, Higher, earlier, later, ToPropose, free, ended}
-use Rattle.rules.proofs.Laws.{renewed, kept, Naming, first, replaced, unmoved}
+use Rattle.rules.proofs.Laws.{stays, holder-aged, earlier, later, Keeping, asSent, asEmpty}
+use Rattle.rules.proofs.Laws.{ToPropose, free, ended, renewed, kept, Naming, first, replaced}
+use Rattle.rules.proofs.Laws.{unmoved}
 use Rattle.state.specs.declared.Settings.{Settings}
 use Rattle.state.specs.declared.State.{State}
 use Rattle.state.specs.StateLimits.{lastLongest, settingsOk, acceptedOk, namedOk}
@@ -52,10 +53,11 @@ aged-in s number clock t i = record {
 
 -- ---- replies, leases to propose, and naming
 
-pub kept-higher : (n : ℕ) {a b c : Accepted} → Higher a b c → acceptedOk n a ≡ true
-    → acceptedOk n b ≡ true → acceptedOk n c ≡ true
-kept-higher n (earlier _) p q = p
-kept-higher n (later _) p q = q
+pub kept-reply : (n : ℕ) {clock : ℕ} {a b c : Accepted} → Keeping clock a b c
+    → acceptedOk n a ≡ true → acceptedOk n b ≡ true → acceptedOk n c ≡ true
+kept-reply n (asSent (earlier _)) p q = p
+kept-reply n (asSent (later _)) p q = q
+kept-reply n (asEmpty _ _) p q = p
 
 pub kept-replied : (n set h : ℕ) → isBelow set n ≡ true → h < n → isBelow (withHost set h) n ≡ true
 kept-replied n set h e b =

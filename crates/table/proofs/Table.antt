@@ -14,9 +14,9 @@ use Rattle.frame.specs.Reading.{readAnswer, readOffset, readOf}
 use Rattle.frame.specs.Writing.{frameOf, writeAnswer, framesIn, framesOf, answerTo}
 use Rattle.frame_c.specs.Interface.{handedNumbers, handedAnswer, handedAnswerTo}
 use Rattle.rules.specs.Rules.{waitEnd, acceptedAt, namedAt, isFresh, mayPromise, hasEnded, higherOf}
-use Rattle.rules.specs.Rules.{actsOn, valueToPropose, isForbidden, mayAccept, afterAccept, mayLearn}
-use Rattle.rules.specs.Rules.{namedBy, namesItself, takesRelease, freedLease, freedHolder}
-use Rattle.rules.specs.Rules.{afterRelease}
+use Rattle.rules.specs.Rules.{keptAfter, actsOn, valueToPropose, isForbidden, mayAccept}
+use Rattle.rules.specs.Rules.{afterAccept, mayLearn, namedBy, namesItself, takesRelease, freedLease}
+use Rattle.rules.specs.Rules.{freedHolder, afterRelease}
 use Rattle.state.specs.StateLimits.{lastLongest, settingsOk, durationOk, ballotOk, leaseOk}
 use Rattle.state.specs.StateLimits.{acceptedOk, promisedOk, lastOk, namedOk, askingOk, proposingOk}
 use Rattle.state.specs.StateLimits.{roundOk, stateOk}
@@ -65,7 +65,7 @@ unfolding frameOf writeAnswer framesIn framesOf answerTo handedNumbers handedAns
     advanceAllRefusal advancedAll advancedOne advanceOneRefusal startAtRefusal deliverFull
     deliverRefusal delivered loseRefusal repeatRefusal repeated restartAtRefusal releaseAtRefusal
     refusalOf afterOf lookedFor deliverLooked placingOf lookedOf lookedIn eventOf run answers every
-    allOf
+    allOf keptAfter
 computed = (
   record {
     P1 = refl;
@@ -91,6 +91,8 @@ computed = (
     released = refl;
     lags = refl;
     spent = refl;
+    ahead = refl;
+    stays = refl;
   },
   record {
     reading = refl;

@@ -3,17 +3,18 @@
 use Prim.Native.Nat.{ℕ, _+_, _≤_, _<_}
 use native.Mathlib.Omega.{arith}
 use native.Mathlib.Nat.{le-refl}
-use mathlib.Core.Path.{_≡_, ap, subst}
+use mathlib.Core.Path.{_≡_, sym, ap, subst, _∙_}
 use mathlib.Core.Logic.{_⊎_, inl, inr}
 use mathlib.Core.Option.{Option, none, some, Option·none-ne-some, Option·some-injective}
-use Rattle.theory.specs.Ballots.{tick, proposer, Lease}
+use Rattle.theory.specs.Ballots.{tick, proposer, Lease, top}
 use Rattle.theory.specs.Model.{Setup, Message, prepareRequest, prepareResponse, release, idle}
-use Rattle.theory.specs.Model.{asking, Host, World, Sent, put, withRound, withAsking, Higher}
-use Rattle.theory.specs.Model.{nextTick, NewTick}
-use Rattle.theory.specs.Invariant.{Proposed, Below, Heard, Reply, MessageOk, Asking}
-use Rattle.theory.specs.Invariant.{Invariant}
+use Rattle.theory.specs.Model.{asking, Host, World, Sent, put, withRound, withAsking}
+use Rattle.theory.specs.Model.{Expired, Keeps, asSent, asEmpty, nextTick, NewTick}
+use Rattle.theory.specs.Invariant.{Voted, Proposed, Live, Below, Heard, Reply, MessageOk}
+use Rattle.theory.specs.Invariant.{Asking, Invariant}
 use Rattle.theory.proofs.Act.{kind, released-before, Owed, held}
-use Rattle.theory.proofs.ActParts.{plain-owed, proposed-before, host-with-round, keep-round}
+use Rattle.theory.proofs.ActParts.{come-dead, under, plain-owed, proposed-before}
+use Rattle.theory.proofs.ActParts.{host-with-round, keep-round}
 
 module _ {𝒞 : Setup} where
   open Setup 𝒞 using (longest as T, spread as S, Hosts, In)
@@ -83,9 +84,9 @@ module _ {𝒞 : Setup} where
 
     pub keep-hear : (b d : ℕ) (R R' : Hosts) (K A K' : Option Lease) (x : ℕ)
         → s .host h .round ≡ asking b d R K → Sent s (prepareResponse x b A) →
-        ((y : ℕ) → In y R' → (y ≡ x) ⊎ In y R) → (K' ≡ K) ⊎ (K' ≡ A) → Higher K A K' →
+        ((y : ℕ) → In y R' → (y ≡ x) ⊎ In y R) → Keeps (s .clock h) K A K' →
         Invariant (put s h (withRound (s .host h) (asking b d R' K')) none)
-    keep-hear b d R R' K A K' x q m more which higher =
+    keep-hear b d R R' K A K' x q m more keeps =
         keep-round I h (asking b d R' K') (record {
           ours = Q .ours;
           unsaid = Q .unsaid;
@@ -93,7 +94,7 @@ module _ {𝒞 : Setup} where
           old = Q .old;
           short = Q .short;
           unreleased = Q .unreleased;
-          below = one-of which;
+          below = one-of keeps;
           heard = λ y i. by-whom y (more y i);
         })
       where
@@ -103,21 +104,42 @@ module _ {𝒞 : Setup} where
         P : Reply s x b A
         P = I .messages _ m
 
-        one-of : (K' ≡ K) ⊎ (K' ≡ A) → Below s b K'
-        one-of (inl z) = rw z (Q .below)
-        one-of (inr z) = rw z (P .below)
+        one-of : Keeps (s .clock h) K A K' → Below s b K'
+        one-of (asSent (inl z) g) = rw z (Q .below)
+        one-of (asSent (inr z) g) = rw z (P .below)
+        one-of (asEmpty a t l (inl z) g) = rw z (Q .below)
+        one-of (asEmpty a t l (inr z) g) = λ k q. absurd (Option·none-ne-some k (sym z ∙ q))
+
+        -- what x voted for is at or below the reply's lease; where that one's end has come, none of
+        -- it is live
+        missed : (a : Lease) → A ≡ some a → Expired a (s .clock h) → (c o e : ℕ) → Proposed s c o e
+            → c < b → Live s c o e → Voted s x c → ⊥
+        missed a t l c o e p n k v =
+            let u : c < a .ballot + 1 = rw t at (P .heard .full c o e p n k v) in
+            k .not-dead
+            (come-dead I h e
+            (omega (arith, under I c o e a p (P .below a t .0) (omega arith) k .1)))
+
+        by-sender : Keeps (s .clock h) K A K' → Heard s x b K'
+        by-sender (asSent w g) = record {
+          joined = P .heard .joined;
+          full = λ c o e p l k v. omega (arith, P .heard .full c o e p l k v, g .over-reply);
+        }
+        by-sender (asEmpty a t l w g) = record {
+          joined = P .heard .joined;
+          full = λ c o e p n k v. absurd (missed a t l c o e p n k v);
+        }
+
+        kept-over : Keeps (s .clock h) K A K' → top K ≤ top K'
+        kept-over (asSent w g) = omega (arith, g .over-kept)
+        kept-over (asEmpty a t l w g) = omega (arith, g .over-kept)
 
         by-whom : (y : ℕ) → (y ≡ x) ⊎ In y R → Heard s y b K'
-        by-whom y (inl z) =
-            rw z (record {
-              joined = P .heard .joined;
-              full = λ c o e p l k v.
-                  omega (arith, P .heard .full c o e p l k v, higher .over-reply);
-            })
+        by-whom y (inl z) = rw z (by-sender keeps)
         by-whom y (inr i) =
             let g = Q .heard y i in
             record {
               joined = g .joined;
               full = λ c o e p l k v.
-                  omega (arith, g .full c o e p l k v, higher .over-kept);
+                  omega (arith, g .full c o e p l k v, kept-over keeps);
             }

@@ -106,8 +106,8 @@ module _ {𝒞 : Setup} where
     keep-act v m giveUp = keep-giveUp I h
     keep-act v m (start b d R x0 x1 x2 x3 x4 x5 x6) = keep-start I h b d R x0 x1 x2 x3 x4 x5 x6
     keep-act v m (promise b x0 x1 x2) = keep-promise I h b x0 x1 x2
-    keep-act v m (hear b d R R' K A K' x x0 x1 x2 x3 x4) =
-        keep-hear I h b d R R' K A K' x x0 x1 x2 x3 x4
+    keep-act v m (hear b d R R' K A K' x x0 x1 x2 x3) =
+        keep-hear I h b d R R' K A K' x x0 x1 x2 x3
     keep-act v m (propose b d o e R R' K x0 x1 x2 x3) = keep-propose I h b d o e R R' K x0 x1 x2 x3
     keep-act v m (accept b o e x0 x1 x2 x3) = keep-accept I h b o e x0 x1 x2 x3
     keep-act v m (count b o e R R' x x0 x1 x2) = keep-count I h b o e R R' x x0 x1 x2

@@ -96,6 +96,13 @@ pub record Higher (K A K' : Option Lease) : Type 0 where
   pub over-kept : top K ≤ top K'
   pub over-reply : top A ≤ top K'
 
+-- what a host keeps that has kept K, when its clock is now and a reply carries A: the higher one;
+-- where A's end has come, the reply may count as empty too
+pub data Keeps (now : ℕ) (K A K' : Option Lease) : Type 0 where
+  asSent : (K' ≡ K) ⊎ (K' ≡ A) → Higher K A K' → Keeps now K A K'
+  asEmpty : (a : Lease) → A ≡ some a → Expired a now → (K' ≡ K) ⊎ (K' ≡ none) → Higher K none K'
+      → Keeps now K A K'
+
 -- the owner and the keepers' end that a majority of replies lets p propose
 -- (now: p's clock; ours: the end that p's own lease would have; K: the lease kept of the replies)
 pub data Choice (p now ours : ℕ) (K : Option Lease) : ℕ → ℕ → Type 0 where
@@ -222,7 +229,7 @@ module _ {𝒞 : Setup} where
     hear :
         (b d : ℕ) (R R' : Hosts) (K A K' : Option Lease) (x : ℕ) → v .round ≡ asking b d R K
         → List·Memᴰ (prepareResponse x b A) l →
-        ((y : ℕ) → In y R' → (y ≡ x) ⊎ In y R) → (K' ≡ K) ⊎ (K' ≡ A) → Higher K A K' →
+        ((y : ℕ) → In y R' → (y ≡ x) ⊎ In y R) → Keeps c K A K' →
         Act c v l h (withRound v (asking b d R' K')) none
     propose :
         (b d o e : ℕ) (R R' : Hosts) (K : Option Lease) → v .round ≡ asking b d R K → Majority R

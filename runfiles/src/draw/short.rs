@@ -42,7 +42,8 @@ pub fn case(case: Case) -> &'static str {
         Case::PromisedEmpty | Case::PromisedLease | Case::ReleasePromised => "promises",
         Case::ResponseToNoRound | Case::AnswerToNoRound => "no round",
         Case::ResponseRepeated | Case::AnswerRepeated | Case::ReleaseAgain => "had it",
-        Case::ResponseExpired | Case::ProposeExpired | Case::LearnExpired => "expired",
+        Case::ProposeExpired | Case::LearnExpired => "expired",
+        Case::ResponseEnded => "as empty",
         Case::ResponseCounted | Case::AnswerCounted => "counts",
         Case::ProposesOwn
         | Case::ProposesOwnAfterKept
@@ -67,7 +68,6 @@ pub fn did_nothing(case: Case) -> bool {
             | Case::PrepareNotAbove
             | Case::ResponseToNoRound
             | Case::ResponseRepeated
-            | Case::ResponseExpired
             | Case::ProposeExpired
             | Case::ProposeBelow
             | Case::AnswerToNoRound

@@ -1,11 +1,11 @@
--- `Host::on_reply`: a reply to another ballot, a second one of its sender and one whose lease has
--- ended do nothing; any other is counted.
+-- `Host::on_reply`: a reply to another ballot and a second one of its sender do nothing; any other
+-- is counted.
 use mathlib.Core.Path.{_≡_}
-use mathlib.Core.Bool.{true, false}
+use mathlib.Core.Bool.{true}
 use borrow.Author.Tests.{not-false, not-true}
 use Rattle.base.proofs.Tests.{told}
 use Rattle.message.specs.Message.{isSame}
-use Rattle.rules.specs.Rules.{countsReply, hasEnded}
+use Rattle.rules.specs.Rules.{countsReply}
 use Rattle.host.specs.Steps.{askingAfter, onReply}
 use borrow.Author.Needs.{needs}
 use Rattle.host.proofs.Host.on_reply.Statement.{statement}
@@ -23,16 +23,6 @@ first : (c : tie.Else2)
 first c =
     told (c .before .counts-reply .ensures)
     (not-false (c .before .counts-reply .result) (c .if2 .left))
-
-ended : (c : tie.Then3)
-    → hasEnded (c .before .before .before .before .before .before .args .self .clock)
-    (c .before .before .before .before .before .before .args .reply) ≡ true
-ended c = told (c .before .has-ended .ensures) (c .if3 .taken)
-
-live : (c : tie.Else3)
-    → hasEnded (c .before .before .before .before .before .before .args .self .clock)
-    (c .before .before .before .before .before .before .args .reply) ≡ false
-live c = told (c .before .has-ended .ensures) (c .if3 .left)
 
 pub on-reply-spec : {M : Type 1} → statement M
 unfolding onReply askingAfter
@@ -53,24 +43,19 @@ on-reply-spec =
       ← c .before .before .counts-reply .ensures,
       not-true (c .before .before .counts-reply .result) (c .before .if2 .taken),
     ))
-    (λ c κs. search needs) (λ c κs. search needs)
-    (λ c.
-    let d = c .before .before .before in
-    rw (c .quiet-with3 .ensures, same-ballot (d .before .before), first d, ended (c .before)))
     (λ c κs. search needs)
     (λ c κs.
-    let q = c .before .before .before .before .before .before .before .pre .1 in
+    let q = c .before .before .before .before .before .pre .1 in
     record {
       few = q .few;
       tick = rw (c .asking-after .ensures) (q .tick);
       duration = rw (c .asking-after .ensures) (q .duration);
     })
     (λ c.
-    let d = c .before .before .before .before in
+    let d = c .before .before in
     rw (
       c .on-counted-reply .ensures,
       c .before .asking-after .ensures,
       same-ballot (d .before .before),
       first d,
-      live (c .before .before),
     )))

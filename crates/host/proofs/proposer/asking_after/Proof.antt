@@ -1,4 +1,4 @@
--- `asking_after`: the sender joins those that replied, and the higher of two leases is kept.
+-- `asking_after`: the sender joins those that replied, and what is kept is the rule's.
 use Rattle.host.specs.Steps.{askingAfter}
 use borrow.Author.Needs.{needs}
 use Rattle.host.proofs.proposer.asking_after.Statement.{statement}
@@ -9,4 +9,4 @@ unfolding askingAfter
 asking-after-spec =
     tie.close
     (tie.spec (λ c κs. search needs) (λ c κs. search needs)
-    (λ c. rw (c .with-host .ensures, c .before .higher-of .ensures)))
+    (λ c. rw (c .with-host .ensures, c .before .kept-after .ensures)))
