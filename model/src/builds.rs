@@ -61,7 +61,7 @@ pub const WRONG: [(&str, Build); 12] = [
         Build { forgets_the_kept_lease: true, ..RIGHT },
     ),
     (
-        "keeps a lease that has ended, since its ballot is higher",
+        "keeps the lease of a response like any other when it has ended",
         Build { keeps_an_ended_lease: true, ..RIGHT },
     ),
     (

@@ -1,14 +1,13 @@
-//! One run for each build that breaks a rule, in which it comes to two holders, or to other ones
-//! than the right build; what differs from seed to seed is the settings. In the right build each is
-//! a run like any other.
+//! One run for each build that breaks a rule of the cell, in which it comes to two holders, or is
+//! listed otherwise than the right one; what differs from seed to seed is the settings. In the
+//! right build each is a run like any other.
 
 use crate::builds::Build;
 use crate::cell::{Event, Settings, LAST_TICK};
 use crate::driver::{is_response, Driver, Phase, PHASES};
 use crate::random::Random;
 
-/// The run for the wrong build at that place of `WRONG_RULES`, as the cell of a build goes
-/// through it.
+/// The run for the wrong build at that place of `WRONG`, as the cell of a build goes through it.
 pub fn run(seed: u64, of: usize, build: Build) -> Vec<u8> {
     run_in(settings(&mut Random::new(seed)), of, build)
 }

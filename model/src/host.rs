@@ -1,5 +1,5 @@
 //! One host as proposer, acceptor and learner: document 01's 'What each event does', host by host,
-//! with document 02's release.
+//! with document 02's changes.
 //! A step that would send more messages than there is room for changes nothing.
 
 use crate::builds::Build;
@@ -571,8 +571,8 @@ mod tests {
         assert_eq!(host.promised, None);
     }
 
-    /// A prepare response of host 2 to host 1, which asks at 110, has host 1's own reply, and keeps
-    /// that lease; what it comes to, and what is kept or proposed then.
+    /// What a prepare response of host 2 with this lease comes to at host 1, which asks at 110, has
+    /// counted its own reply and keeps `kept`; and its round after that.
     fn heard(n: u8, kept: Option<Lease>, lease: Lease) -> (Option<Case>, Round) {
         let rules = Rules { n, ..RULES };
         let mut asking = host(1, None, None);

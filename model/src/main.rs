@@ -12,7 +12,7 @@ const USAGE: &str = "\
 model < RUNFILE                      the listing of a run file
 model --compare BENCH FOLDER FILES   compares so many listings with those of BENCH
 model --counts BENCH FOLDER FILES    the same, and says what was met
-model --wrong                        a run that breaks agreement for each wrong build
+model --wrong                        a run for each wrong build that breaks agreement
 model --turned-away                  the same, silent where there is one
 model --first-seeds                  the first of any runs that do so, in some minutes
 model --measure BENCH FOLDER         times of listings, those of BENCH beside its own

@@ -1,5 +1,5 @@
-//! The turns that releases take, and prepare responses whose lease has ended, told from the cell
-//! before an event, for the count of what a comparison has met.
+//! The turns that releases take, and those that prepare responses take whose lease has ended, told
+//! from the cell before an event, for the count of what a comparison has met.
 
 use crate::cell::{Cell, Event};
 use crate::host::{Host, Round};
@@ -19,7 +19,8 @@ pub enum Turn {
     SendersHolderAgain,
     SendersHolderHigher,
     AnothersHolder,
-    /// What a response whose lease has ended finds kept by the round that counts it.
+    /// What a response whose lease has ended finds kept by the round that counts it; a lease with
+    /// an equal ballot is among the higher ones.
     EndedNoneKept,
     EndedLowerKept,
     EndedHigherKept,

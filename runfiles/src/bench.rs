@@ -24,7 +24,7 @@ pub const HELP: &str = "  --bench PATH   another bench than the proved one, targ
                    owner    drops a lease at a release request, whoever owns it
                    kept     forgets the lease that it kept at a response whose lease has ended
                  in the place of the bench alone, a build that
-                   ended    keeps a lease that has ended, since its ballot is higher
+                   ended    keeps the lease of a response like any other when it has ended
                    discard  discards a response whose lease has ended, as document 01 has it
                    length   skips by the length field without comparing it with the kind
 ";

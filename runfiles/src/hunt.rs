@@ -29,10 +29,10 @@ usage: runfile hunt SEED COUNT SETTINGS [--into FOLDER] [--bench PATH | --wrong 
 
 The runs take, renew, lose, give back and pass on leases under losses, repeats, restarts and clocks
 that stray as far as they may; some are damaged files, some go the ways in which wrong builds come
-to two holders, and some go through the turns of releases. Two holders are two hosts that name
-themselves and, as long as nobody has let go, any two that are named. It ends at the first find,
-which is made short by dropping events while it still shows, and says how many runs, events, leases,
-restarts and releases it tried.
+to two holders, or are listed otherwise than the right one, and some go through the turns of
+releases. Two holders are two hosts that name themselves and, as long as nobody has let go, any two
+that are named. It ends at the first find, which is made short by dropping events while it still
+shows, and says how many runs, events, leases, restarts and releases it tried.
 
   SEED           a number; the same one gives the same runs
   COUNT          how many runs to try
@@ -40,8 +40,8 @@ restarts and releases it tried.
   --into FOLDER  where to write a find; the working folder where it is left out
 ";
 
-/// Of so many runs one is damaged, one is a way in which a wrong build comes to two holders, and
-/// one goes through the turns of releases.
+/// Of so many runs one is damaged, one goes a way in which a wrong build comes to two holders or is
+/// listed otherwise than the right one, and one goes through the turns of releases.
 const MIXED: u64 = 20;
 
 /// Between two looks at how far it is, on a terminal and elsewhere.

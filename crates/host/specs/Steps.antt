@@ -1,4 +1,4 @@
--- The steps of one host, in document 01's order, with document 02's release: what is refused and
+-- The steps of one host, in document 01's order, with document 02's changes: what is refused and
 -- what is done, apart. Assumes nothing.
 use Prim.Native.Nat.{ℕ, _+_, _^_}
 use mathlib.Core.Bool.{Bool, cond, not}
@@ -250,7 +250,8 @@ onPrepareRequest h m =
 
 -- ---- prepare response
 
--- 'count it and keep the reply with the highest accepted ballot', at this clock of the receiver
+-- 'count it and keep the reply with the highest accepted ballot'; whether its lease has ended is
+-- told by the receiver's clock
 unfoldable pub askingAfter : ℕ → Asking → ℕ → Accepted → Asking
 askingAfter clock a sender reply =
     record {

@@ -369,8 +369,8 @@ impl Host {
         self.receive(s, Message::PrepareResponseEmpty(m))
     }
 
-    // Counts a reply that tells of a lease, unless that has ended, and keeps the one with the
-    // highest ballot; with a majority it proposes. Refused as `receive`.
+    // Counts a reply that tells of a lease, as empty where that has ended, and else keeps the one
+    // with the highest ballot; with a majority it proposes. Refused as `receive`.
     pub fn prepare_response_lease(self, s: Settings, m: LeaseResponse) -> Stepped
         ensures { λ r. ⌜ r ≡ receiveOf s self (PrepareResponseLease m) ⌝ }
     {

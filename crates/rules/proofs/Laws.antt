@@ -1,6 +1,6 @@
 -- Laws of the leaf rules. Agreement and the limits stand on them, and a build whose rule is another
 -- does not have them. Assumes nothing.
-use mathlib.Core.Path.{_≡_, refl, sym, ap}
+use mathlib.Core.Path.{_≡_, refl, sym, ap, _∙_}
 use mathlib.Core.Logic.{_≢_}
 use mathlib.Core.Bool.{Bool, true, false, cond, not}
 use Prim.Native.Nat.{ℕ, _+_, _≤_, _<_}
@@ -154,7 +154,9 @@ empty-leaves clock (Accepted.One a) = refl
 pub ended-as-empty : (clock : ℕ) (kept : Accepted) (l : Lease) → l .end .0 ≤ clock
     → keptAfter clock kept (Accepted.One l) ≡ keptAfter clock kept Accepted.Nothing
 unfolding keptAfter
-ended-as-empty clock kept l h = rw (come clock l h) (sym (empty-leaves clock kept))
+ended-as-empty clock kept l h =
+    ap (λ (b : Bool). cond b kept (higherOf kept (Accepted.One l))) (come clock l h)
+    ∙ sym (empty-leaves clock kept)
 
 -- what is kept after one more reply is the higher of the two, or what was kept where the reply's
 -- lease has ended

@@ -1,4 +1,4 @@
--- The leaf rules of a host, in document 01's order, with document 02's release, each with the
+-- The leaf rules of a host, in document 01's order, with document 02's changes, each with the
 -- sentence it stands for. Assumes nothing.
 use Prim.Native.Nat.{ℕ, _+_}
 use mathlib.Core.Bool.{Bool, true, false, cond, not, _&&_}

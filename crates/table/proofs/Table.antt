@@ -51,21 +51,21 @@ unfolding frameOf writeAnswer framesIn framesOf answerTo handedNumbers handedAns
     ones onesIn firstOf le numberAt total numbersAt packed isMajority membersFrom lastTick lastEnd
     isAbove knownKind isResponse numbersOf messageOf addressedTo partyFits faultOf partyFitsTo
     faultTo moreOf kindLength offsetIn bytesOf valueIn numbersIn testsIn failsAt readAnswer
-    readOffset readOf waitEnd acceptedAt namedAt isFresh mayPromise hasEnded higherOf actsOn
-    valueToPropose isForbidden mayAccept afterAccept mayLearn namedBy namesItself takesRelease
-    freedLease freedHolder afterRelease lastLongest settingsOk durationOk ballotOk leaseOk
-    acceptedOk promisedOk lastOk namedOk askingOk proposingOk roundOk stateOk agedAt lastWait hostOk
-    advanceRefusal advancedHost advanceOf restartRefusal restartedHost restartOf startRefusal
-    onStart startOf releaseRefusal onRelease releaseOf responseWith onPrepareRequest askingAfter
-    onMajority onCountedReply onReply onPrepareResponse onProposeRequest proposingAfter onNaming
-    onChosen onCountedVote onVote onProposeResponse onLearn onReleaseRequest onMessage onDelivery
-    receiveRefusal receiveOf isEmpty contentOk slotsOk empties lowest placed placedEach noPromise
-    noLease noTick noRound noHolder isBlankState placeOk stateAtOk placesOk statesOk clocksOk cellOk
-    messagesIn sentTo stepped openingRefusal newHost openedWith openingOf eachHost advancesRefusal
-    advanceAllRefusal advancedAll advancedOne advanceOneRefusal startAtRefusal deliverFull
-    deliverRefusal delivered loseRefusal repeatRefusal repeated restartAtRefusal releaseAtRefusal
-    refusalOf afterOf lookedFor deliverLooked placingOf lookedOf lookedIn eventOf run answers every
-    allOf keptAfter
+    readOffset readOf waitEnd acceptedAt namedAt isFresh mayPromise hasEnded higherOf keptAfter
+    actsOn valueToPropose isForbidden mayAccept afterAccept mayLearn namedBy namesItself
+    takesRelease freedLease freedHolder afterRelease lastLongest settingsOk durationOk ballotOk
+    leaseOk acceptedOk promisedOk lastOk namedOk askingOk proposingOk roundOk stateOk agedAt
+    lastWait hostOk advanceRefusal advancedHost advanceOf restartRefusal restartedHost restartOf
+    startRefusal onStart startOf releaseRefusal onRelease releaseOf responseWith onPrepareRequest
+    askingAfter onMajority onCountedReply onReply onPrepareResponse onProposeRequest proposingAfter
+    onNaming onChosen onCountedVote onVote onProposeResponse onLearn onReleaseRequest onMessage
+    onDelivery receiveRefusal receiveOf isEmpty contentOk slotsOk empties lowest placed placedEach
+    noPromise noLease noTick noRound noHolder isBlankState placeOk stateAtOk placesOk statesOk
+    clocksOk cellOk messagesIn sentTo stepped openingRefusal newHost openedWith openingOf eachHost
+    advancesRefusal advanceAllRefusal advancedAll advancedOne advanceOneRefusal startAtRefusal
+    deliverFull deliverRefusal delivered loseRefusal repeatRefusal repeated restartAtRefusal
+    releaseAtRefusal refusalOf afterOf lookedFor deliverLooked placingOf lookedOf lookedIn eventOf
+    run answers every allOf
 computed = (
   record {
     P1 = refl;

@@ -39,7 +39,7 @@ pub data Message : Type 0 where
 pub data Round (𝒞 : Setup) : Type 0 where
   idle : Round 𝒞
   asking : ℕ → ℕ → 𝒞 .Hosts → Option Lease
-      → Round 𝒞  -- ballot, duration, who replied, highest lease of the replies
+      → Round 𝒞  -- ballot, duration, who replied, the lease kept of the replies
   proposing : ℕ → ℕ → ℕ → 𝒞 .Hosts → Round 𝒞  -- ballot, owner, keepers' end, who replied
 
 -- `promised` is one more than the promised ballot, and `last` one more than the last ballot's tick;
