@@ -97,7 +97,7 @@ impl Delivery<'_> {
         let clock = self.before().clock;
         let as_empty = match self.handed.body {
             Body::PrepareResponse(Some(lease)) if lease.end.has_come(clock) => {
-                format!(", as empty since that end has come by its clock, {},", clock)
+                format!(" (as empty: that end has come by its clock, {})", clock)
             }
             _ => String::new(),
         };
@@ -110,11 +110,9 @@ impl Delivery<'_> {
             Round::Proposing { replies, .. } => (replies.count(), None),
             Round::Idle => (0, None),
         };
-        let ended = self.case == Case::ResponseEnded;
+        let told_now = self.handed.body == Body::PrepareResponse(kept);
         let kept = match kept {
-            Some(kept) if ended => format!(" and goes on keeping {}", lease(&kept)),
-            None if ended => " and keeps nothing".into(),
-            Some(_) if self.handed.body == Body::PrepareResponse(kept) => {
+            Some(_) if told_now && self.case != Case::ResponseEnded => {
                 ", and keeps that lease".into()
             }
             Some(kept) => format!(", and goes on keeping {}", lease(&kept)),
