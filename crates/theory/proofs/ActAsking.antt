@@ -9,7 +9,7 @@ use mathlib.Core.Option.{Option, none, some, Option·none-ne-some, Option·some-
 use Rattle.theory.specs.Ballots.{tick, proposer, Lease, top}
 use Rattle.theory.specs.Model.{Setup, Message, prepareRequest, prepareResponse, release, idle}
 use Rattle.theory.specs.Model.{asking, Host, World, Sent, put, withRound, withAsking}
-use Rattle.theory.specs.Model.{Expired, Keeps, asSent, asEmpty, nextTick, NewTick}
+use Rattle.theory.specs.Model.{Expired, Keeps, asSent, asEmpty, Counted, nextTick, NewTick}
 use Rattle.theory.specs.Invariant.{Voted, Proposed, Live, Below, Heard, Reply, MessageOk}
 use Rattle.theory.specs.Invariant.{Asking, Invariant}
 use Rattle.theory.proofs.Act.{kind, released-before, Owed, held}
@@ -84,7 +84,7 @@ module _ {𝒞 : Setup} where
 
     pub keep-hear : (b d : ℕ) (R R' : Hosts) (K A K' : Option Lease) (x : ℕ)
         → s .host h .round ≡ asking b d R K → Sent s (prepareResponse x b A) →
-        ((y : ℕ) → In y R' → (y ≡ x) ⊎ In y R) → Keeps (s .clock h) K A K' →
+        Counted 𝒞 x R R' → Keeps (s .clock h) K A K' →
         Invariant (put s h (withRound (s .host h) (asking b d R' K')) none)
     keep-hear b d R R' K A K' x q m more keeps =
         keep-round I h (asking b d R' K') (record {
@@ -95,7 +95,7 @@ module _ {𝒞 : Setup} where
           short = Q .short;
           unreleased = Q .unreleased;
           below = one-of keeps;
-          heard = λ y i. by-whom y (more y i);
+          heard = λ y i. let whose : (y ≡ x) ⊎ In y R = more y i in by-whom y whose;
         })
       where
         Q : Asking s h (s .host h .last) b d R K

@@ -9,7 +9,8 @@ use mathlib.Core.Option.{Option, none, some, Option·some-injective}
 use Rattle.theory.specs.Ballots.{tick, proposer, Lease, top}
 use Rattle.theory.specs.Model.{Setup, Message, proposeRequest, proposeResponse, learn, asking}
 use Rattle.theory.specs.Model.{proposing, Host, World, Sent, put, withRound, withHolder}
-use Rattle.theory.specs.Model.{HoldersEnd, Choice, free, over, renew, other}
+use Rattle.theory.specs.Model.{HoldersEnd, ToldOwner, ToldEnd, Choice, free, over, renew}
+use Rattle.theory.specs.Model.{other, Counted}
 use Rattle.theory.specs.Invariant.{Voted, Proposed, Live, Proposal, Holding, MessageOk}
 use Rattle.theory.specs.Invariant.{Asking, Proposing, Invariant}
 use Rattle.theory.proofs.Ballots.{le-or-lt, with-new}
@@ -147,14 +148,13 @@ module _ {𝒞 : Setup} where
 
     pub keep-count : (b o e : ℕ) (R R' : Hosts) (x : ℕ) → s .host h .round ≡ proposing b o e R
         → Sent s (proposeResponse x b) →
-        ((y : ℕ) → In y R' → (y ≡ x) ⊎ In y R)
-        → Invariant (put s h (withRound (s .host h) (proposing b o e R')) none)
+        Counted 𝒞 x R R' → Invariant (put s h (withRound (s .host h) (proposing b o e R')) none)
     keep-count b o e R R' x q m more =
         keep-round I h (proposing b o e R')
         (record {
           proposed = Q .proposed;
           unreleased = Q .unreleased;
-          votes = λ y i. by-whom y (more y i);
+          votes = λ y i. let whose : (y ≡ x) ⊎ In y R = more y i in by-whom y whose;
         })
       where
         Q : Proposing s h b o e R
@@ -174,14 +174,16 @@ module _ {𝒞 : Setup} where
           chosen = record { set = R; majority = maj; votes = Q .votes };
         }
 
-    pub keep-tell : (b o e f : ℕ) (R : Hosts) → s .host h .round ≡ proposing b o e R → Majority R
-        → HoldersEnd S e f →
-        Invariant (put s h (s .host h) (some (learn b o f)))
-    keep-tell b o e f R q maj apart =
+    pub keep-tell : (b o e p f : ℕ) (R : Hosts) → s .host h .round ≡ proposing b o e R → Majority R
+        → ToldOwner (s .sent) o p → ToldEnd (s .sent) S e f →
+        Invariant (put s h (s .host h) (some (learn b p f)))
+    keep-tell b o e p f R q maj told ends =
+        let same : p ≡ o = told in
+        let apart : e ≡ f + S = ends in
         held I h v m F
         (λ m' z.
         subst (λ k. MessageOk (put s h v m) k) (Option·some-injective _ _ z)
-        (holding-kept I L b o f (won b o e f R Q maj apart)))
+        (holding-kept I L b p f (rw same (won b o e f R Q maj apart))))
         (host-with-round I h (v .last) (v .round) m F (omega arith) (omega arith)
         (round-kept I L h (v .last) (v .round) (mute I h v m (omega arith) h)
         (firm I h v m (omega arith) h) (I .hosts h .round-ok)))
@@ -191,7 +193,7 @@ module _ {𝒞 : Setup} where
         v = s .host h
 
         m : Option Message
-        m = some (learn b o f)
+        m = some (learn b p f)
 
         F : Owed s h v m
         F = plain-owed I h v m (omega arith) (le-refl _) (inl (le-refl _, le-refl _))

@@ -87,6 +87,14 @@ FreedHolder r N N' = (N' ≡ N)
 abbrev pub HoldersEnd : ℕ → ℕ → ℕ → Type 0
 HoldersEnd S e f = e ≡ f + S
 
+-- a learn of a chosen lease, with the owner o and the keepers' end e, tells of the owner p and the
+-- holder's end f, after the messages l: of that owner, and of the end that is the spread earlier
+abbrev pub ToldOwner : List Message → ℕ → ℕ → Type 0
+ToldOwner l o p = p ≡ o
+
+abbrev pub ToldEnd : List Message → ℕ → ℕ → ℕ → Type 0
+ToldEnd l S e f = HoldersEnd S e f
+
 -- the host h takes a learn of the owner o: it is another host
 abbrev pub Learnable : ℕ → ℕ → Type 0
 Learnable h o = o ≢ h
@@ -111,6 +119,10 @@ pub data Choice (p now ours : ℕ) (K : Option Lease) : ℕ → ℕ → Type 0 w
   renew : (a : Lease) (e : ℕ) → K ≡ some a → a .owner ≡ p → ours ≤ e → a .end ≤ e → (e ≡ ours)
       ⊎ (e ≡ a .end) → Choice p now ours K p e
   other : (a : Lease) → K ≡ some a → Choice p now ours K (a .owner) (a .end)
+
+-- R' counts a reply of the host x beside those of R: nobody is in it but x and they
+abbrev pub Counted : (𝒞 : Setup) → ℕ → 𝒞 .Hosts → 𝒞 .Hosts → Type 0
+Counted 𝒞 x R R' = (y : ℕ) → 𝒞 .In y R' → (y ≡ x) ⊎ 𝒞 .In y R
 
 module _ {𝒞 : Setup} where
   open Setup 𝒞 using (longest as T, spread as S, Hosts, In, Majority)
@@ -229,7 +241,7 @@ module _ {𝒞 : Setup} where
     hear :
         (b d : ℕ) (R R' : Hosts) (K A K' : Option Lease) (x : ℕ) → v .round ≡ asking b d R K
         → List·Memᴰ (prepareResponse x b A) l →
-        ((y : ℕ) → In y R' → (y ≡ x) ⊎ In y R) → Keeps c K A K' →
+        Counted 𝒞 x R R' → Keeps c K A K' →
         Act c v l h (withRound v (asking b d R' K')) none
     propose :
         (b d o e : ℕ) (R R' : Hosts) (K : Option Lease) → v .round ≡ asking b d R K → Majority R
@@ -242,10 +254,10 @@ module _ {𝒞 : Setup} where
     count :
         (b o e : ℕ) (R R' : Hosts) (x : ℕ) → v .round ≡ proposing b o e R
         → List·Memᴰ (proposeResponse x b) l →
-        ((y : ℕ) → In y R' → (y ≡ x) ⊎ In y R) → Act c v l h (withRound v (proposing b o e R')) none
+        Counted 𝒞 x R R' → Act c v l h (withRound v (proposing b o e R')) none
     tell :
-        (b o e f : ℕ) (R : Hosts) → v .round ≡ proposing b o e R → Majority R → HoldersEnd S e f
-        → Act c v l h v (some (learn b o f))
+        (b o e p f : ℕ) (R : Hosts) → v .round ≡ proposing b o e R → Majority R → ToldOwner l o p
+        → ToldEnd l S e f → Act c v l h v (some (learn b p f))
     -- a host names by its own majority whoever owns the lease, itself too ..
     win :
         (b o e f : ℕ) (R : Hosts) → v .round ≡ proposing b o e R → Majority R → HoldersEnd S e f
