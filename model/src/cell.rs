@@ -2,13 +2,16 @@
 
 use crate::builds::Build;
 use crate::host::{Case, Host, Rules, Sending};
-use crate::message::{Hosts, Message};
+use crate::message::{Body, HoldersEnd, Hosts, Message};
 use crate::refusal::{CELL, CLOCK, DONE, FULL, HOST, SLOT, SPREAD, TICK};
 
 pub const LAST_TICK: u64 = 1 << 48;
 pub const LONGEST: u32 = 1 << 31;
 pub const MOST_HOSTS: u8 = 9;
 pub const SLOTS: usize = 96;
+
+/// So much later is the end of which one wrong build tells.
+const TOLD_LATER: u64 = 1_000;
 
 /// What a run file's first record says.
 #[derive(Clone, Copy, Debug, PartialEq, Eq)]
@@ -121,6 +124,8 @@ pub struct Cell {
     pub slots: Slots,
     /// What the last event came to, if it was a delivery that was done.
     pub case: Option<Case>,
+    /// Whether anybody has let go, which no rule asks: two wrong builds do.
+    let_go: bool,
 }
 
 impl Cell {
@@ -133,7 +138,7 @@ impl Cell {
         let (longest, spread) = (u64::from(longest), u64::from(spread));
         let rules = Rules { n, longest, spread, build };
         let hosts = (0..n).map(|number| Host::new(&rules, number, clock)).collect();
-        Ok(Cell { rules, hosts, slots: Slots::new(), case: None })
+        Ok(Cell { rules, hosts, slots: Slots::new(), case: None, let_go: false })
     }
 
     /// The answer: 0, or a refusal, which leaves the cell as it was.
@@ -199,9 +204,22 @@ impl Cell {
         self.case = Some(case);
         self.slots.free(slot);
         if let Some(sending) = sending {
-            self.slots.send(message.target, sending);
+            self.slots.send(message.target, self.as_told(sending));
         }
         Ok(())
+    }
+
+    /// What is sent, as it is; but for a learn message in two wrong builds.
+    fn as_told(&self, sending: Sending) -> Sending {
+        let Rules { n, build, .. } = self.rules;
+        match sending.body {
+            Body::Learn { owner, end } if self.let_go => {
+                let owner = if build.tells_of_the_next_host { (owner + 1) % n } else { owner };
+                let later = if build.tells_of_a_later_end { TOLD_LATER } else { 0 };
+                Sending { body: Body::Learn { owner, end: HoldersEnd(end.0 + later) }, ..sending }
+            }
+            _ => sending,
+        }
     }
 
     fn lose(&mut self, slot: u8) -> Result<(), u8> {
@@ -231,6 +249,7 @@ impl Cell {
         let room = self.slots.room();
         let host = self.hosts.get_mut(usize::from(number)).ok_or(HOST)?;
         let sending = host.release(&self.rules, room)?;
+        self.let_go = true;
         self.slots.send(number, sending);
         Ok(())
     }

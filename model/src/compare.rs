@@ -8,7 +8,7 @@ use std::process::{Command, Stdio};
 use std::sync::atomic::{AtomicU64, Ordering};
 use std::thread;
 
-use crate::agreement::Breach;
+use crate::breach::Breach;
 use crate::builds::{Build, RIGHT, WRONG, WRONG_RULES};
 use crate::coverage::{add_all, Coverage, Onlooker};
 use crate::listing::{list, Unwatched};
@@ -31,15 +31,15 @@ pub fn file_of(seed: u64, build: Build) -> Vec<u8> {
     }
 }
 
-/// A listing of a file, and the first event after which agreement is broken.
+/// A listing of a file, and the first breach of each kind, with the place of its event.
 pub fn watched(
     bytes: &[u8],
     build: Build,
     coverage: &mut Coverage,
-) -> (Vec<u8>, Option<(u64, Breach)>) {
+) -> (Vec<u8>, Vec<(u64, Breach)>) {
     let mut onlooker = Onlooker::new(coverage);
     let listing = list(bytes, build, &mut onlooker);
-    (listing, onlooker.breach)
+    (listing, onlooker.breaches())
 }
 
 /// What one worker found.
@@ -101,8 +101,8 @@ impl Comparison<'_> {
         let bytes = file_of(seed, RIGHT);
         fs::write(run_file, &bytes)?;
         let theirs = listing_by(self.bench, run_file)?;
-        let (ours, breach) = watched(&bytes, RIGHT, &mut found.coverage);
-        if let Some((place, breach)) = breach {
+        let (ours, breaches) = watched(&bytes, RIGHT, &mut found.coverage);
+        for (place, breach) in breaches {
             found.differences.push(format!("seed {}: after event {} {}", seed, place, breach));
         }
         if ours != theirs {

@@ -2,7 +2,8 @@
 //! responses whose lease has ended, and what became of leases; and whether agreement was ever
 //! broken.
 
-use crate::agreement::{Agreement, Breach};
+use crate::agreement::Agreement;
+use crate::breach::Breach;
 use crate::cell::{Cell, Event};
 use crate::host::{Case, CASES};
 use crate::listing::Watch;
@@ -155,8 +156,6 @@ pub struct Onlooker<'a> {
     /// The turns of the event that comes.
     turns: Vec<Turn>,
     agreement: Agreement,
-    /// The place of the first event after which agreement is broken.
-    pub breach: Option<(u64, Breach)>,
 }
 
 impl<'a> Onlooker<'a> {
@@ -169,8 +168,12 @@ impl<'a> Onlooker<'a> {
             last_holder: None,
             turns: Vec::new(),
             agreement: Agreement::default(),
-            breach: None,
         }
+    }
+
+    /// The first breach of each kind, with the place of its event.
+    pub fn breaches(self) -> Vec<(u64, Breach)> {
+        self.agreement.breaches
     }
 
     fn naming(&mut self, before: Option<Holder>, now: Option<Holder>) {
@@ -209,6 +212,7 @@ impl Watch for Onlooker<'_> {
 
     fn before(&mut self, event: Event, cell: &Cell) {
         self.turns = Turn::of(event, cell);
+        self.agreement.before(event, cell);
     }
 
     fn event(&mut self, place: u64, kind: u16, answer: u8, cell: &Cell) {
@@ -228,8 +232,7 @@ impl Watch for Onlooker<'_> {
             }
             self.named[at] = host.named;
         }
-        let breach = self.agreement.breach(kind, answer, cell);
-        self.breach = self.breach.or(breach.map(|breach| (place, breach)));
+        self.agreement.after(place, kind, answer, cell);
     }
 
     fn stop(&mut self, fault: Fault) {

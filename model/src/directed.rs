@@ -1,4 +1,4 @@
-//! One run for each build that breaks a rule of the cell, in which it comes to two holders, or is
+//! One run for each build that breaks a rule of the cell, in which it breaks agreement, or is
 //! listed otherwise than the right one; what differs from seed to seed is the settings. In the
 //! right build each is a run like any other.
 
@@ -30,7 +30,8 @@ pub fn run_in(settings: Settings, of: usize, build: Build) -> Vec<u8> {
         6 => let_go_by_the_others(&mut driver, duration),
         7 => let_go_after_the_next(&mut driver, duration),
         8 => told_of_an_ended_lease_last(&mut driver, duration),
-        9 => told_of_a_higher_ended_lease(&mut driver, duration),
+        9 | 10 => told_after_a_release(&mut driver, duration),
+        11 => told_of_a_higher_ended_lease(&mut driver, duration),
         _ => asked_ahead(&mut driver, duration),
     }
     driver.bytes
@@ -200,6 +201,20 @@ fn told_of_an_ended_lease_last(driver: &mut Driver, duration: u64) {
     }
     driver.round(0, duration, 0..behind);
     driver.round(1, duration, (1..rules.majority() as u8).chain([behind]));
+}
+
+/// Host 0 lets go, and host 1 takes the next lease, of which it tells all others. When that has
+/// ended everywhere, host 2 takes one.
+fn told_after_a_release(driver: &mut Driver, duration: u64) {
+    let rules = driver.cell.rules;
+    driver.round(0, duration, 0..rules.n);
+    driver.advance_all(1);
+    driver.release(0);
+    driver.let_go(0, 0..rules.n);
+    driver.round(1, duration, 0..rules.n);
+    driver.learn(1, (0..rules.n).filter(|&host| host != 1));
+    driver.advance_all(duration + rules.spread);
+    driver.round(2, duration, 0..rules.n);
 }
 
 /// The last host alone has accepted a lease of host 0, and host 0 alone a shorter one of host 1

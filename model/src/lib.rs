@@ -3,6 +3,7 @@
 //! files.
 
 pub mod agreement;
+pub mod breach;
 pub mod builds;
 pub mod cell;
 pub mod compare;
@@ -15,6 +16,7 @@ pub mod host;
 pub mod listing;
 pub mod measure;
 pub mod message;
+pub mod past;
 pub mod random;
 pub mod record;
 pub mod refusal;

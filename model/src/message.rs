@@ -38,6 +38,10 @@ impl HoldersEnd {
     pub fn has_come(self, clock: u64) -> bool {
         self.0 <= clock
     }
+
+    pub fn to_keepers(self, spread: u64) -> KeepersEnd {
+        KeepersEnd(self.0 + spread)
+    }
 }
 
 /// An accepted lease.
@@ -54,6 +58,13 @@ pub struct Holder {
     pub ballot: Ballot,
     pub owner: u8,
     pub end: HoldersEnd,
+}
+
+impl Holder {
+    /// The lease that it holds, if there is one.
+    pub fn lease(self, spread: u64) -> Lease {
+        Lease { ballot: self.ballot, owner: self.owner, end: self.end.to_keepers(spread) }
+    }
 }
 
 /// What a message says beside its ballot.

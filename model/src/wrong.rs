@@ -4,8 +4,8 @@
 use std::ops::Range;
 use std::thread;
 
-use crate::agreement::Breach;
-use crate::builds::{Build, RIGHT, TWO_HOLDERS, WRONG};
+use crate::breach::Breach;
+use crate::builds::{Build, BREAK_AGREEMENT, RIGHT, TWO_HOLDERS, WRONG};
 use crate::compare::watched;
 use crate::coverage::Coverage;
 use crate::{directed, generate};
@@ -15,7 +15,8 @@ const SEEDS: u64 = 40_000;
 
 /// The seeds with which any runs first turn each build away, as `first_seeds` found them; those
 /// before tell nothing, so that any runs are tried from there on.
-const FIRST_OF_ANY: [u64; TWO_HOLDERS] = [6_012, 585, 6, 131_558, 12, 1_302, 538, 105_634, 464];
+const FIRST_OF_ANY: [u64; BREAK_AGREEMENT] =
+    [6_012, 585, 6, 131_558, 12, 1_302, 538, 105_634, 464, 5, 5];
 
 /// `first_seeds` goes so far.
 const LAST_OF_ANY: u64 = 2_000_000;
@@ -46,15 +47,22 @@ fn run_of(way: Way, of: usize, seed: u64) -> Vec<u8> {
     }
 }
 
-fn watched_in(bytes: &[u8], build: Build) -> (Vec<u8>, Option<(u64, Breach)>) {
+fn watched_in(bytes: &[u8], build: Build) -> (Vec<u8>, Vec<(u64, Breach)>) {
     watched(bytes, build, &mut Coverage::default())
+}
+
+/// Whether a breach is what is looked for in a build. Some of those that lead to two holders come
+/// to other breaches long before: there nothing less than two holders counts.
+fn is_sought(breach: Breach, of: usize) -> bool {
+    of >= TWO_HOLDERS || breach.is_two_holders()
 }
 
 /// The first of the seeds whose run leads to it.
 fn search(way: Way, of: usize, mut seeds: Range<u64>) -> Option<Caught> {
     seeds.find_map(|seed| {
-        let (listing, breach) = watched_in(&run_of(way, of, seed), WRONG[of].1);
-        breach.map(|(place, breach)| Caught { seed, place, breach, listing })
+        let (listing, breaches) = watched_in(&run_of(way, of, seed), WRONG[of].1);
+        let sought = breaches.into_iter().find(|(_, breach)| is_sought(*breach, of));
+        sought.map(|(place, breach)| Caught { seed, place, breach, listing })
     })
 }
 
@@ -77,7 +85,7 @@ fn look(way: Way, of: usize) -> (bool, String) {
         None => return (false, format!("{:?} runs do not turn away one that {}", way, name)),
     };
     let Caught { seed, place, breach, .. } = caught;
-    if let Some((_, breach)) = watched_in(&run_of(way, of, seed), RIGHT).1 {
+    if let Some((_, breach)) = watched_in(&run_of(way, of, seed), RIGHT).1.first() {
         return (false, format!("{:?} run of seed {}: {} in the right build", way, seed, breach));
     }
     let run = format!("{:?} run of seed {}, event {}, {}", way, seed, place, breach);
@@ -89,7 +97,7 @@ fn look(way: Way, of: usize) -> (bool, String) {
 /// what it found.
 pub fn run(tell: bool) -> bool {
     let tasks: Vec<(Way, usize)> =
-        (0..TWO_HOLDERS).flat_map(|of| [(Way::Directed, of), (Way::Any, of)]).collect();
+        (0..BREAK_AGREEMENT).flat_map(|of| [(Way::Directed, of), (Way::Any, of)]).collect();
     let looked: Vec<(bool, String)> = thread::scope(|scope| {
         let spawn = |(way, of)| scope.spawn(move || look(way, of));
         let running: Vec<_> = tasks.into_iter().map(spawn).collect();
@@ -105,7 +113,7 @@ pub fn run(tell: bool) -> bool {
 /// Says with which seed any runs first turn each build away. That takes minutes, and is wanted when
 /// the generator has changed.
 pub fn first_seeds() -> bool {
-    let firsts: Vec<Option<u64>> = (0..TWO_HOLDERS)
+    let firsts: Vec<Option<u64>> = (0..BREAK_AGREEMENT)
         .map(|of| {
             let first = search(Way::Any, of, 0..LAST_OF_ANY).map(|caught| caught.seed);
             println!("{:?}: one that {}", first, WRONG[of].0);
@@ -113,4 +121,50 @@ pub fn first_seeds() -> bool {
         })
         .collect();
     firsts.iter().all(Option::is_some)
+}
+
+#[cfg(test)]
+mod tests {
+    use super::*;
+    use crate::builds::WRONG_RULES;
+    use crate::releases;
+
+    /// The breaches that the build at that place of `WRONG` comes to in some runs.
+    fn breaches_of(of: usize) -> Vec<Breach> {
+        let build = WRONG[of].1;
+        let runs = |seed| {
+            let any = [generate::run(seed, build), releases::run(seed, build)];
+            any.into_iter().chain([directed::run(seed, of, build)])
+        };
+        let met = |bytes: Vec<u8>| watched_in(&bytes, build).1;
+        (0..100).flat_map(runs).flat_map(met).map(|(_, breach)| breach).collect()
+    }
+
+    #[test]
+    fn what_is_told_after_a_release_breaks_only_what_is_claimed_of_releases() {
+        for of in TWO_HOLDERS..BREAK_AGREEMENT {
+            let met = breaches_of(of);
+            for breach in [Breach::NotLetGo, Breach::NotWon, Breach::NotAccepted] {
+                assert!(met.contains(&breach), "{}: {:?}", WRONG[of].0, breach);
+            }
+            for breach in [Breach::TwoHolders, Breach::TwoNames, Breach::PastItsEnd] {
+                assert!(!met.contains(&breach), "{}: {:?}", WRONG[of].0, breach);
+            }
+        }
+    }
+
+    #[test]
+    fn what_a_wrong_build_takes_for_a_vote_or_a_win_is_none() {
+        let first = [Breach::NotAccepted, Breach::NotWon, Breach::NotWon];
+        for (of, breach) in first.iter().enumerate() {
+            assert_eq!(breaches_of(of).first(), Some(breach), "{}", WRONG[of].0);
+        }
+    }
+
+    #[test]
+    fn builds_that_break_no_agreement_come_to_no_breach() {
+        for of in BREAK_AGREEMENT..WRONG_RULES {
+            assert_eq!(breaches_of(of), [], "{}", WRONG[of].0);
+        }
+    }
 }

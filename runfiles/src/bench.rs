@@ -6,7 +6,8 @@ use std::path::{Path, PathBuf};
 use std::process::{Command, Output, Stdio};
 use std::thread;
 
-use model::builds::{Build, RIGHT, TWO_HOLDERS, WRONG};
+use model::breach::Breach;
+use model::builds::{Build, BREAK_AGREEMENT, RIGHT, TWO_HOLDERS, WRONG};
 use model::listing::{list, Unwatched};
 
 use crate::arguments::Given;
@@ -23,6 +24,8 @@ pub const HELP: &str = "  --bench PATH   another bench than the proved one, targ
                    itself   names itself until its own release request comes in
                    owner    drops a lease at a release request, whoever owns it
                    kept     forgets the lease that it kept at a response whose lease has ended
+                   next     tells of the next host as owner once anybody has let go
+                   later    tells of an end 1,000 ticks later once anybody has let go
                  in the place of the bench alone, a build that
                    ended    keeps the lease of a response like any other when it has ended
                    discard  discards a response whose lease has ended, as document 01 has it
@@ -31,8 +34,8 @@ pub const HELP: &str = "  --bench PATH   another bench than the proved one, targ
 
 /// The wrong builds by short names, in the model's order.
 const WRONG_NAMES: [&str; WRONG.len()] = [
-    "promise", "twice", "keepers", "counter", "learn", "round", "itself", "owner", "kept", "ended",
-    "discard", "length",
+    "promise", "twice", "keepers", "counter", "learn", "round", "itself", "owner", "kept", "next",
+    "later", "ended", "discard", "length",
 ];
 
 /// One wrong build.
@@ -51,8 +54,12 @@ impl Wrong {
         WRONG[self.of].0
     }
 
-    /// Whether it breaks a rule of the cell so that it leads to two holders.
-    pub fn leads_to_two_holders(self) -> bool {
+    fn breaks_agreement(self) -> bool {
+        self.of < BREAK_AGREEMENT
+    }
+
+    /// Whether it breaks agreement so that there are two holders.
+    fn leads_to_two_holders(self) -> bool {
         self.of < TWO_HOLDERS
     }
 
@@ -70,8 +77,8 @@ impl Wrong {
 }
 
 /// The two whose listings are compared: who plays, and a build of the model. A wrong build that
-/// leads to two holders is both, so that these are what is found; any other is compared with the
-/// right one.
+/// breaks agreement is both, so that this is what is found; any other is compared with the right
+/// one.
 pub struct Sides {
     pub player: Player,
     pub model: Build,
@@ -85,12 +92,19 @@ impl Sides {
             return Err(given.unexpected("--wrong or --bench, not both", path));
         }
         Ok(match wrong {
-            Some(build) if build.leads_to_two_holders() => {
+            Some(build) if build.breaks_agreement() => {
                 Sides { player: Player::Wrong(build), model: build.build(), wrong }
             }
             Some(build) => Sides { player: Player::Wrong(build), model: RIGHT, wrong },
             None => Sides { player: Player::bench(given)?, model: RIGHT, wrong },
         })
+    }
+
+    /// The breach to tell of, with the place of its event. In a build that leads to two holders it
+    /// is those that are looked for, and what comes before is passed over.
+    pub fn broken(&self, breaches: &[(u64, Breach)]) -> Option<(u64, Breach)> {
+        let two_holders = self.wrong.map_or(false, Wrong::leads_to_two_holders);
+        breaches.first().copied().filter(|_| !two_holders)
     }
 }
 

@@ -1,6 +1,8 @@
 //! `runfile explain`: a run file and its listing side by side, each event in words.
 
-use model::listing::{list, Unwatched};
+use model::breach::Breach;
+use model::compare::watched;
+use model::coverage::Coverage;
 
 use crate::arguments::Given;
 use crate::bench::Sides;
@@ -17,7 +19,7 @@ At the left stands the bench's listing: for each event its place, kind and answe
 its word, and for each host the holder that it names. Then the event as `make` reads it, and what
 it was: which message went from whom to whom, and what came of it. Of a stop it says why, and
 (at 2) is the byte of a field in its record. Each line of the listing is compared with the model's,
-and a DISAGREEMENT is said to be one.
+and a DISAGREEMENT is said to be one; so are TWO HOLDERS, and AGREEMENT BROKEN otherwise.
 
   RUNFILE        the run file; standard input where it is left out
   -o TEXT        where to write it; standard output where it is left out
@@ -36,9 +38,10 @@ pub fn run(given: &Given) -> Outcome {
     let input = files::read(given.at_most_one()?)?;
     let sides = Sides::given(given)?;
     let theirs = lines::of(&sides.player.listing(&input.bytes)?);
-    let ours = lines::of(&list(&input.bytes, sides.model, &mut Unwatched));
+    let (ours, breaches) = watched(&input.bytes, sides.model, &mut Coverage::default());
+    let (ours, broken) = (lines::of(&ours), sides.broken(&breaches));
     let told = told(&input.bytes, &sides);
-    let explanation = Explanation { name: input.name, theirs, ours, told };
+    let explanation = Explanation { name: input.name, theirs, ours, told, broken };
     let (text, found) = explanation.text(&sides);
     Ok(Done { output: text.into_bytes(), found })
 }
@@ -74,10 +77,12 @@ struct Explanation {
     theirs: Vec<String>,
     ours: Vec<String>,
     told: Vec<Told>,
+    /// What the model has seen that no run should come to, with the place of its event.
+    broken: Option<(u64, Breach)>,
 }
 
 impl Explanation {
-    /// The text, and whether it has a disagreement or two holders.
+    /// The text, and whether it has a disagreement or broken agreement.
     fn text(&self, sides: &Sides) -> (String, bool) {
         let columns = Columns::of(self);
         let two_holders = lines::two_holders(&self.theirs);
@@ -92,9 +97,12 @@ impl Explanation {
             if two_holders == Some(at) {
                 text += &format!("TWO HOLDERS, for the first time, after event {}\n", at);
             }
+            if let Some((_, breach)) = self.broken.filter(|(event, _)| *event == at as u64) {
+                text += &format!("AGREEMENT BROKEN after event {}: {}\n", at, breach);
+            }
         }
         text += &self.verdict(differing, sides);
-        (text, differing > 0 || two_holders.is_some())
+        (text, differing > 0 || two_holders.is_some() || self.broken.is_some())
     }
 
     fn row(&self, at: usize, columns: &Columns) -> String {

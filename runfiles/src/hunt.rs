@@ -1,9 +1,11 @@
-//! `runfile hunt`: random runs through the model and the bench, to find a disagreement or two
-//! holders, and to make short what is found.
+//! `runfile hunt`: random runs through the model and the bench, to find a disagreement or broken
+//! agreement, and to make short what is found.
 
+use std::mem::discriminant;
 use std::path::Path;
 use std::time::{Duration, Instant};
 
+use model::breach::Breach;
 use model::builds::WRONG_RULES;
 use model::cell::Settings;
 use model::compare::watched;
@@ -23,16 +25,18 @@ use crate::source::{self, Line};
 use crate::{files, lines, show, terminal, words, Done, Outcome};
 
 pub const HELP: &str = "\
-Random runs through the model and the bench, to find a disagreement or two holders.
+Random runs through the model and the bench, to find a disagreement or broken agreement.
 
 usage: runfile hunt SEED COUNT SETTINGS [--into FOLDER] [--bench PATH | --wrong NAME]
 
 The runs take, renew, lose, give back and pass on leases under losses, repeats, restarts and clocks
-that stray as far as they may; some are damaged files, some go the ways in which wrong builds come
-to two holders, or are listed otherwise than the right one, and some go through the turns of
-releases. Two holders are two hosts that name themselves and, as long as nobody has let go, any two
-that are named. It ends at the first find, which is made short by dropping events while it still
-shows, and says how many runs, events, leases, restarts and releases it tried.
+that stray as far as they may; some are damaged files, some go the ways in which wrong builds break
+agreement, or are listed otherwise than the right one, and some go through the turns of releases.
+Agreement is broken by two holders, that is two hosts that name themselves and, as long as nobody
+has let go, any two that are named. In the model it is broken too by a holder whose lease was not
+won, or not accepted by a majority, and by two that are named of which the earlier has not let go.
+It ends at the first find, which is made short by dropping events while it still shows, and says how
+many runs, events, leases, restarts and releases it tried.
 
   SEED           a number; the same one gives the same runs
   COUNT          how many runs to try
@@ -40,7 +44,7 @@ shows, and says how many runs, events, leases, restarts and releases it tried.
   --into FOLDER  where to write a find; the working folder where it is left out
 ";
 
-/// Of so many runs one is damaged, one goes a way in which a wrong build comes to two holders or is
+/// Of so many runs one is damaged, one goes a way in which a wrong build breaks agreement or is
 /// listed otherwise than the right one, and one goes through the turns of releases.
 const MIXED: u64 = 20;
 
@@ -113,17 +117,19 @@ fn settings_of(told: &str) -> Result<Settings, String> {
 #[derive(Clone, Copy, PartialEq, Eq)]
 enum Shown {
     TwoHolders { event: usize },
+    Broken { event: u64, breach: Breach },
     Disagreement { line: usize },
 }
 
 impl Shown {
     fn is_like(self, other: Shown) -> bool {
-        matches!(self, Shown::TwoHolders { .. }) == matches!(other, Shown::TwoHolders { .. })
+        discriminant(&self) == discriminant(&other)
     }
 
     fn text(self) -> String {
         match self {
             Shown::TwoHolders { event } => format!("two holders after event {}", event),
+            Shown::Broken { event, breach } => format!("after event {} {}", event, breach),
             Shown::Disagreement { line } => {
                 format!("bench and model disagree in line {} of the listing", line + 1)
             }
@@ -183,15 +189,21 @@ impl Hunt {
 
     /// What a run shows, if anything, with what was tried by it.
     fn played(&mut self, bytes: &[u8]) -> Result<Option<Shown>, String> {
-        let (ours, _) = watched(bytes, self.sides.model, &mut self.tried);
+        let (ours, breaches) = watched(bytes, self.sides.model, &mut self.tried);
         let theirs = self.sides.player.listing(bytes)?;
-        Ok(shown(&ours, &theirs))
+        Ok(self.shown(&ours, &breaches, &theirs))
     }
 
     fn shown_by(&self, bytes: &[u8]) -> Option<Shown> {
-        let (ours, _) = watched(bytes, self.sides.model, &mut Coverage::default());
+        let (ours, breaches) = watched(bytes, self.sides.model, &mut Coverage::default());
         let theirs = self.sides.player.listing(bytes).ok()?;
-        shown(&ours, &theirs)
+        self.shown(&ours, &breaches, &theirs)
+    }
+
+    /// What two listings show, or else what the model has seen.
+    fn shown(&self, ours: &[u8], breaches: &[(u64, Breach)], theirs: &[u8]) -> Option<Shown> {
+        let broken = |(event, breach)| Shown::Broken { event, breach };
+        shown(ours, theirs).or_else(|| self.sides.broken(breaches).map(broken))
     }
 
     fn find(&self, run: u64, bytes: &[u8], first: Shown) -> Result<Find, String> {

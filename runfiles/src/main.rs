@@ -25,7 +25,7 @@ use std::process::ExitCode;
 use arguments::Given;
 
 /// What a command comes to: its output, and whether it met what nobody should meet, that is a
-/// disagreement or two holders.
+/// disagreement or broken agreement.
 pub struct Done {
     pub output: Vec<u8>,
     pub found: bool,
@@ -87,14 +87,14 @@ const COMMANDS: &[Command] = &[
     },
     Command {
         name: "hunt",
-        about: "random runs, to find a disagreement or two holders",
+        about: "random runs, to find a disagreement or broken agreement",
         help: &[hunt::HELP, bench::HELP],
         options: &["--bench", "--wrong", "--into"],
         work: Work::Own(hunt::run),
     },
 ];
 
-/// How it ends where a disagreement or two holders were met, and where it could not be done.
+/// How it ends where a disagreement or broken agreement was met, and where it could not be done.
 const FOUND: u8 = 1;
 const FAILED: u8 = 2;
 
@@ -109,7 +109,7 @@ usage: runfile COMMAND [ARGUMENTS]
 {}
 `runfile COMMAND --help` says more. A run file or text that is `-`, or is left out,
 is read from standard input. It ends with 0 where all is well, with 1 where it met a
-disagreement or two holders, and with 2 where it could not do what was asked.
+disagreement or broken agreement, and with 2 where it could not do what was asked.
 ",
         rows.collect::<String>()
     )
