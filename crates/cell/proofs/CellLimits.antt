@@ -8,7 +8,7 @@ use native.Mathlib.Nat.{zero-add}
 use native.Mathlib.Decide.{decLt}
 use native.Mathlib.Omega.{arith}
 use lib.Dec.{leb}
-use lib.ListN.{List·getD-eq-default}
+use lib.ListN.{length, List·getD-eq-default}
 use borrow.Author.Tests.{leb-true}
 use Rattle.base.specs.Refusals.{done, allHold, refusedCell, refusedTick}
 use Rattle.base.specs.Lists.{All, allOf}
@@ -21,6 +21,8 @@ use Rattle.state.specs.declared.Settings.{Settings}
 use Rattle.state.specs.StateLimits.{lastLongest, settingsTests, settingsOk, sizesOf}
 use Rattle.host.specs.Steps.{hostOk}
 use Rattle.state.proofs.StateLimits.{SettingsIn, settings-in}
+use Rattle.state.proofs.Blank.{blank-fits}
+use Rattle.host.proofs.HostLimits.{HostIn, host-in}
 use Rattle.slots.specs.declared.Content.{Content}
 use Rattle.slots.specs.Slots.{slotsOk}
 use Rattle.slots.proofs.Laws.{Holds, Sendable, slots-in, out-slots, holds-at}
@@ -75,37 +77,43 @@ tests-in c e =
       slots = q .1 .1 .0;
     }
 
-pub cell-in : (c : Cell) → Sized c → cellOk c ≡ true → CellIn c
+-- of a place that is there
+place-in : (c : Cell) → Tests c → (h : ℕ) → h < length (c .hosts)
+    → (placeOk (c .settings) h (hostAt c h) ≡ true)
+    × (ownStateOk (c .settings) h (hostAt c h) ≡ true)
 unfolding placesOk statesOk
+place-in c t h p = (
+  rw (zero-add h) at (every-in (placeOk (c .settings)) 0 (c .hosts) blankHost (t .places) h p),
+  rw (zero-add h) at (every-in (ownStateOk (c .settings)) 0 (c .hosts) blankHost (t .states) h p),
+)
+
+own-in : (c : Cell) → Tests c → (h : ℕ) → h < c .settings .n → h < length (c .hosts)
+    → (hostAt c h .number ≡ h) × (hostOk (c .settings) (hostAt c h) ≡ true)
+own-in c t h b p =
+    let q = place-in c t h p in
+    own-host (c .settings) h (hostAt c h) (t .settings) b (q .0) (q .1)
+
+pub cell-in : (c : Cell) → Sized c → cellOk c ≡ true → CellIn c
 cell-in c z e =
     let s = c .settings in
     let t = tests-in c e in
     let few = settings-in s (t .settings) .few in
-    let place : (h : ℕ) → h < 9 → placeOk s h (hostAt c h) ≡ true = λ h b.
-    rw (zero-add h) at
-    (every-in (placeOk s) 0 (c .hosts) blankHost (t .places) h (omega (arith, b, z .hosts))) in
-    let state : (h : ℕ) → h < 9 → ownStateOk s h (hostAt c h) ≡ true = λ h b.
-    rw (zero-add h) at
-    (every-in (ownStateOk s) 0 (c .hosts) blankHost (t .states) h (omega (arith, b, z .hosts))) in
     let own : (h : ℕ) → h < s .n → (hostAt c h .number ≡ h) × (hostOk s (hostAt c h) ≡ true) =
-    λ h b.
-    own-host s h (hostAt c h) (t .settings) b (place h (omega (arith, b, few)))
-    (state h (omega (arith, b, few))) in
+    λ h b. own-in c t h b (omega (arith, b, few, z .hosts)) in
     record {
       settings = t .settings;
       number = λ h b. own h b .0;
       host = λ h b. own h b .1;
-      blank = λ h b. go h b place state (decLt h 9);
+      blank = λ h b. go h b t (decLt h 9);
       near = near-in c z (t .settings) (t .clocks);
       messages = slots-in (sizesOf s) (c .slots) (t .slots);
     }
   where
-    go : (h : ℕ) → c .settings .n ≤ h
-        → ((h : ℕ) → h < 9 → placeOk (c .settings) h (hostAt c h) ≡ true)
-        → ((h : ℕ) → h < 9 → ownStateOk (c .settings) h (hostAt c h) ≡ true)
-        → Dec (h < 9) → hostAt c h ≡ blankHost
-    go h b f g (yes p) = blank-place (c .settings) h (hostAt c h) b (f h p) (g h p)
-    go h b f g (no q) = List·getD-eq-default (c .hosts) blankHost (omega (arith, z .hosts))
+    go : (h : ℕ) → c .settings .n ≤ h → Tests c → Dec (h < 9) → hostAt c h ≡ blankHost
+    go h b t (yes p) =
+        let q = place-in c t h (omega (arith, p, z .hosts)) in
+        blank-place (c .settings) h (hostAt c h) b (q .0) (q .1)
+    go h b t (no q) = List·getD-eq-default (c .hosts) blankHost (omega (arith, z .hosts))
 
 pub out-cell : (c : Cell) → Sized c → CellIn c → cellOk c ≡ true
 unfolding cellOk placesOk statesOk All
@@ -151,3 +159,22 @@ pub message-of : (c : Cell) (i : ℕ) (m : Message) → cellOk c ≡ true → co
 message-of c i m e f =
     holds-at (Sendable (sizesOf (c .settings))) (c .slots) i m
     (slots-in (sizesOf (c .settings)) (c .slots) (tests-in c e .slots)) f
+
+-- a host below n is within its limits; where its place is missing it is the blank host
+pub host-of : (c : Cell) (h : ℕ) → cellOk c ≡ true → h < c .settings .n
+    → HostIn (c .settings) (hostAt c h)
+host-of c h e b = go (tests-in c e) (decLt h (length (c .hosts)))
+  where
+    go : Tests c → Dec (h < length (c .hosts)) → HostIn (c .settings) (hostAt c h)
+    go t (yes p) = host-in (c .settings) (hostAt c h) (own-in c t h b p .1)
+    go t (no q) =
+        let blank : hostAt c h ≡ blankHost =
+        List·getD-eq-default (c .hosts) blankHost (omega (arith, q)) in
+        rw blank
+        (record {
+          settings = t .settings;
+          number = omega (arith, b);
+          clock = omega arith;
+          wait = omega arith;
+          state = blank-fits (c .settings) 0;
+        })

@@ -1,13 +1,14 @@
 -- What holds of both outcomes of an event holds of it; that the settings stay; what a step sends;
 -- and that a delivery counts its own slot as empty. Assumes nothing.
-use mathlib.Core.Path.{_≡_, refl, sym}
+use mathlib.Core.Path.{_≡_, refl, sym, ap}
+use mathlib.Core.Bool.{Bool}
 use mathlib.Core.List.{List}
 use Prim.Native.Nat.{ℕ, _≤_, _<_}
 use native.Mathlib.Omega.{arith}
 use lib.Dec.{eqb}
 use lib.ListN.{length}
 use borrow.Author.Tests.{eqb-true, eqb-false, le-leb}
-use Rattle.base.specs.Refusals.{done}
+use Rattle.base.specs.Refusals.{done, unless, refusedFull}
 use Rattle.base.proofs.Lists.{all-map}
 use Rattle.base.proofs.Tests.{by-test}
 use Rattle.quorum.specs.Sets.{Member, members}
@@ -15,6 +16,7 @@ use Rattle.quorum.proofs.Laws.{members-all}
 use Rattle.message.specs.declared.Message.{Message}
 use Rattle.message.specs.Message.{addressedTo}
 use Rattle.host.specs.declared.Sent.{Sent}
+use Rattle.host.specs.declared.Stepped.{Stepped}
 use Rattle.slots.specs.declared.Slot.{Slot}
 use Rattle.slots.specs.declared.Content.{Content}
 use Rattle.slots.specs.Slots.{empties}
@@ -25,9 +27,9 @@ use Rattle.cell.specs.declared.Event.the-variants.{AdvanceAll, AdvanceOn
 use Rattle.cell.specs.declared.Event.the-variants.{Lose, Repeat, Restart, Release}
 use Rattle.cell.specs.declared.Answered.{Answered}
 use Rattle.cell.specs.CellLimits.{contentAt}
-use Rattle.cell.specs.Events.{answeredWith, cellOf, messagesIn, sentTo, stepped, advancedAll}
-use Rattle.cell.specs.Events.{advancedOne, deliverStep, countedFor, deliverFull, delivered}
-use Rattle.cell.specs.Events.{repeated, refusalOf, afterOf, lookedOf, eventOf}
+use Rattle.cell.specs.Events.{answeredWith, cellOf, messagesIn, stepFull, sentTo, stepped}
+use Rattle.cell.specs.Events.{advancedAll, advancedOne, deliverStep, countedFor, deliverFull}
+use Rattle.cell.specs.Events.{delivered, repeated, refusalOf, afterOf, lookedOf, eventOf}
 
 -- ---- both outcomes
 
@@ -104,10 +106,16 @@ holds-sent P n ss (Sent.One m) receivers p f =
 freed-counted : (c : Cell) (i : ℕ) → i < length (c .slots) → 1 ≤ empties (countedFor c i)
 freed-counted c i b = freed-counts (c .slots) i b
 
+-- as many messages as there are empty slots are not refused
+full-passed : (ss : List Slot) (step : Stepped)
+    → messagesIn (step .sent) (step .receivers) ≤ empties ss → stepFull ss step ≡ done
+full-passed ss step l =
+    ap (λ (b : Bool). unless b refusedFull)
+    (le-leb (messagesIn (step .sent) (step .receivers)) (empties ss) l)
+
 pub reply-fits : (c : Cell) (i : ℕ) (m : Message) → i < length (c .slots)
     → messagesIn (deliverStep c m .sent) (deliverStep c m .receivers) ≤ 1
     → deliverFull c i (Content.One m) ≡ done
 unfolding deliverFull
 reply-fits c i m b k =
-    rw (le-leb (messagesIn (deliverStep c m .sent) (deliverStep c m .receivers))
-    (empties (countedFor c i)) (omega (arith, freed-counted c i b)))
+    full-passed (countedFor c i) (deliverStep c m) (omega (arith, freed-counted c i b))

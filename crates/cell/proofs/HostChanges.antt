@@ -16,7 +16,7 @@ use Rattle.cell.specs.declared.Event.{Event}
 use Rattle.cell.specs.declared.Event.the-variants.{AdvanceAll, AdvanceOne, Start, Deliver}
 use Rattle.cell.specs.declared.Event.the-variants.{Lose, Repeat, Restart, Release}
 use Rattle.cell.specs.declared.Answered.{Answered}
-use Rattle.cell.specs.CellLimits.{hostAt, withHost, contentAt}
+use Rattle.cell.specs.CellLimits.{hostAt, withHostAt, contentAt}
 use Rattle.cell.specs.Events.{cellOf, stepped, advancedAll, advancedOne, delivered, repeated}
 use Rattle.cell.specs.Events.{afterOf, eventOf}
 use Rattle.cell.specs.Claims.{Sound}
@@ -36,7 +36,7 @@ module _ (c : Cell) (P : Host → Host → Type 0) (q : Changes (c .settings) P)
   abbrev To : Cell → Type 0
   To d = (k : ℕ) → P (hostAt c k) (hostAt d k)
 
-  one-host : (h : ℕ) (x : Host) → P (hostAt c h) x → To (withHost c h x)
+  one-host : (h : ℕ) (x : Host) → P (hostAt c h) x → To (withHostAt c h x)
   one-host h x p k = by-host c h x (P (hostAt c k)) k (λ e. rw e p) (q .same (hostAt c k))
 
   all-hosts : (d : ℕ) → To (advancedAll c d)

@@ -1,6 +1,6 @@
 -- The hosts of a cell by their number: one of them replaced, all of them advanced, and their
 -- clocks. But for the limits and the proof of `apply_within`, which walk them, proofs above this
--- file speak of hosts by `hostAt` and `withHost` alone. Assumes nothing.
+-- file speak of hosts by `hostAt` and `withHostAt` alone. Assumes nothing.
 use mathlib.Core.Path.{_≡_, refl, _∙_}
 use mathlib.Core.Bool.{true}
 use Prim.Native.Nat.{ℕ, _+_, _≤_, _<_}
@@ -17,30 +17,30 @@ use Rattle.places.specs.Places.{blankHost, advancesRefusal}
 use Rattle.places.proofs.PlaceLimits.{clocks-in, out-clocks}
 use Rattle.places.proofs.Each.{length-each, each-below, each-above, first-each, each-of}
 use Rattle.cell.specs.declared.Cell.{Cell}
-use Rattle.cell.specs.CellLimits.{hostAt, withHost, clocksNear}
+use Rattle.cell.specs.CellLimits.{hostAt, withHostAt, clocksNear}
 use Rattle.cell.specs.Events.{hostsRefusal, advancedAll}
 use Rattle.cell.specs.Claims.{Sized}
 
 -- ---- one host replaced
 
 module _ (c : Cell) (h : ℕ) (x : Host) where
-  pub sized-host : Sized c → Sized (withHost c h x)
+  pub sized-host : Sized c → Sized (withHostAt c h x)
   sized-host z = record { hosts = length-set (c .hosts) h x ∙ z .hosts; slots = z .slots }
 
-  pub host-same : Sized c → h < 9 → hostAt (withHost c h x) h ≡ x
+  pub host-same : Sized c → h < 9 → hostAt (withHostAt c h x) h ≡ x
   host-same z b = getD-set-same (c .hosts) h x blankHost (omega (arith, z .hosts))
 
   -- what holds of the new host under its number, and of the old host of a number, holds of the host
   -- of that number now
   pub by-host : (P : Host → Type 0) (k : ℕ) → (k ≡ h → P x) → P (hostAt c k)
-      → P (hostAt (withHost c h x) k)
+      → P (hostAt (withHostAt c h x) k)
   by-host P k p q = by-place P (c .hosts) h x k blankHost p q
 
-  pub host-other : (k : ℕ) → (k ≡ h → ⊥) → hostAt (withHost c h x) k ≡ hostAt c k
+  pub host-other : (k : ℕ) → (k ≡ h → ⊥) → hostAt (withHostAt c h x) k ≡ hostAt c k
   host-other k d = by-host (λ (y : Host). y ≡ hostAt c k) k (λ e. absurd (d e)) refl
 
 -- a host that is put back stays
-pub host-keeps : (c : Cell) (h : ℕ) → withHost c h (hostAt c h) ≡ c
+pub host-keeps : (c : Cell) (h : ℕ) → withHostAt c h (hostAt c h) ≡ c
 host-keeps c h = rw (set-getD (c .hosts) h blankHost)
 
 -- ---- all hosts advanced

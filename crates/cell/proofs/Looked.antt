@@ -1,23 +1,25 @@
--- How many slots an event looks at: none where anything but 13 refuses it, all where 13 does; and
--- that what a step sends is placed to as many receivers as 13 counts. Assumes nothing.
+-- How many slots an event looks at: those up to the last that it fills where it is done, none where
+-- anything but 13 refuses it, all where 13 does; and that what a step sends is placed to as many
+-- receivers as 13 counts. Assumes nothing.
 use mathlib.Core.Path.{_≡_, refl, sym, ap, _∙_}
 use mathlib.Core.Bool.{Bool, true, false, cond, _||_, _&&_, not}
 use mathlib.Core.List.{List, [], _∷_}
-use Prim.Native.Nat.{ℕ, _+_, _^_, _<_}
+use Prim.Native.Nat.{ℕ, _+_, _^_, _≤_, _<_}
 use native.Mathlib.Omega.{arith}
 use lib.Dec.{ltb, leb, eqb}
 use lib.ListN.{length}
-use borrow.Author.Tests.{ltb-true, leb-false, eqb-true, eqb-false, ne-eqb}
+use borrow.Author.Tests.{ltb-true, leb-true, leb-false, eqb-true, eqb-false, ne-eqb}
 use Rattle.base.specs.Refusals.{done, unless, firstOf, refusedCell, refusedHost, refusedWaiting}
 use Rattle.base.specs.Refusals.{refusedSameTick, refusedDuration, refusedSlot, refusedFull}
 use Rattle.base.specs.Refusals.{refusedSpread, refusedClock, refusedNotHolder}
-use Rattle.base.proofs.Tests.{true-false, by-test, first-of, first-only, none-of, unless-of}
+use Rattle.base.proofs.Tests.{true-false, both, by-test, first-passed, unless-passed, first-of}
+use Rattle.base.proofs.Tests.{first-only, none-of, unless-of}
 use Rattle.quorum.specs.Sets.{sizeOf, members, singleOf}
 use Rattle.quorum.proofs.Laws.{members-length, members-single}
 use Rattle.quorum.proofs.Majorities.{size-single}
 use Rattle.message.specs.declared.Message.{Message}
-use Rattle.message.specs.Message.{numbersOf, lastTick}
-use Rattle.message.proofs.Laws.{passed-to}
+use Rattle.message.specs.Message.{numbersOf, lastTick, targetOf}
+use Rattle.message.proofs.Laws.{passed-to, target-in}
 use Rattle.rules.specs.Rules.{isWaiting, isFresh, namesItself}
 use Rattle.state.specs.declared.Settings.{Settings}
 use Rattle.state.specs.StateLimits.{durationOk, sizesOf}
@@ -26,9 +28,13 @@ use Rattle.host.specs.declared.Sent.{Sent}
 use Rattle.host.specs.declared.Stepped.{Stepped}
 use Rattle.host.specs.Claims.{writes}
 use Rattle.host.specs.Steps.{hostOk, advanceRefusal, restartRefusal, startRefusal, releaseRefusal}
+use Rattle.host.proofs.Within.{Passes, fine-step}
+use Rattle.host.proofs.Outcomes.{Cause, begins, letsGo, gets, stepOn}
 use Rattle.slots.specs.declared.Slot.{Slot}
 use Rattle.slots.specs.declared.Content.{Content}
 use Rattle.slots.specs.Slots.{slotCount, isEmpty, slotRefusal, empties, fullRefusal, lookedFor}
+use Rattle.slots.specs.Slots.{freed}
+use Rattle.slots.specs.Claims.{FilledUpTo}
 use Rattle.slots.proofs.Laws.{length-freed}
 use Rattle.slots.proofs.Claims as slots
 use Rattle.cell.specs.declared.Cell.{Cell}
@@ -38,15 +44,17 @@ use Rattle.cell.specs.declared.Event.the-variants.{Lose, Repeat, Restart
 use Rattle.cell.specs.declared.Answered.{Answered}
 use Rattle.cell.specs.CellLimits.{hostAt, contentAt, cellOk, clocksNear}
 use Rattle.cell.specs.Events.{hostRefusal, messagesIn, stepFull, stepLooked, hostsRefusal}
-use Rattle.cell.specs.Events.{advanceAllRefusal, advancedOne, advanceOneRefusal}
-use Rattle.cell.specs.Events.{stepAtRefusal, startStep, startAtRefusal, deliverFull}
-use Rattle.cell.specs.Events.{deliverLooked, releaseStep}
+use Rattle.cell.specs.Events.{sentTo, stepped, advanceAllRefusal, advancedAll, advancedOne}
+use Rattle.cell.specs.Events.{advanceOneRefusal, stepAtRefusal, startStep, startAtRefusal}
+use Rattle.cell.specs.Events.{deliverFull, deliverLooked, delivered, releaseStep}
 use Rattle.cell.specs.Events.{deliverRefusal, loseRefusal, repeatRefusal, restartAtRefusal}
-use Rattle.cell.specs.Events.{releaseAtRefusal, refusalOf, placingOf, countWith, lookedOf}
-use Rattle.cell.specs.Events.{eventOf}
-use Rattle.cell.specs.Claims.{Sized}
+use Rattle.cell.specs.Events.{repeated, releaseAtRefusal, refusalOf, afterOf, placingOf}
+use Rattle.cell.specs.Events.{countWith, lookedOf, eventOf}
+use Rattle.cell.specs.Claims.{Sized, slotsFound}
 use Rattle.cell.proofs.Hosts.{by-advances}
+use Rattle.cell.proofs.CellLimits.{message-of, host-of}
 use Rattle.cell.proofs.Events.{by-outcome, answer-is}
+use Rattle.cell.proofs.StaysWithin.{host-passed}
 
 -- ---- how far an event gets
 
@@ -67,6 +75,108 @@ count-same a x y f = go (eqb a done || eqb a refusedFull) f
     go : (b : Bool) → (b ≡ true → x ≡ y) → cond b x 0 ≡ cond b y 0
     go true g = g refl
     go false g = refl
+
+-- ---- what a step sends has as many receivers as 13 counts
+
+-- the set has as many hosts as it has below n
+unfoldable pub Counted : ℕ → Sent → ℕ → Type 0
+Counted n Sent.Nothing receivers = Unit
+Counted n (Sent.One m) receivers = sizeOf receivers ≡ length (members n receivers)
+
+pub counted-writes : (s : Settings) (sent : Sent) (receivers : ℕ) → writes s sent receivers
+    → Counted (s .n) sent receivers
+unfolding writes Counted
+counted-writes s Sent.Nothing receivers w = tt
+counted-writes s (Sent.One m) receivers w =
+    let p = passed-to (sizesOf s) (numbersOf m) receivers w in
+    sym (members-length (s .n) receivers (ltb-true receivers (2 ^ s .n) (p .target)))
+
+-- to one host
+pub counted-one : (n h : ℕ) (m : Message) → h < n → Counted n (Sent.One m) (singleOf h)
+unfolding Counted
+counted-one n h m b = size-single h ∙ sym (ap length (members-single n h b))
+
+-- ---- an event that is done looks at the slots up to the last that it fills
+
+-- for so many messages there is room
+room-for : (k : ℕ) (ss : List Slot) → firstOf (fullRefusal k ss ∷ []) ≡ done → k ≤ empties ss
+room-for k ss e =
+    leb-true k (empties ss) (unless-passed (leb k (empties ss)) refusedFull [] refl e .0)
+
+sent-fills : (n : ℕ) (ss : List Slot) (sent : Sent) (receivers : ℕ) → Counted n sent receivers
+    → messagesIn sent receivers ≤ empties ss
+    → FilledUpTo (lookedFor (messagesIn sent receivers) ss) ss (sentTo n ss sent receivers)
+unfolding Counted messagesIn sentTo
+sent-fills n ss Sent.Nothing receivers k b = rw (slots.nothing ss) (slots.filled-none ss)
+sent-fills n ss (Sent.One m) receivers k b =
+    rw k (slots.filled ss m (members n receivers) (omega (arith, k, b)))
+
+module _ (c : Cell) where
+  -- a step of a host, into these slots
+  step-fills : (ss : List Slot) (h : ℕ) (cause : Cause)
+      → let step = stepOn (c .settings) (hostAt c h) cause in cellOk c ≡ true → h < c .settings .n
+      → Passes (c .settings) (hostAt c h) cause → firstOf (stepFull ss step ∷ []) ≡ done
+      → FilledUpTo (stepLooked ss step) ss (stepped c h ss step .slots)
+  unfolding stepped
+  step-fills ss h cause o b f r =
+      let s = c .settings in
+      let x = hostAt c h in
+      let step = stepOn s x cause in
+      let fine = fine-step s x cause (host-of c h o b) f in
+      sent-fills (s .n) ss (step .sent) (step .receivers)
+      (counted-writes s (step .sent) (step .receivers) (fine .writable)) (room-for _ ss r)
+
+  own-fills : (h k : ℕ) (cause : Cause)
+      → let step = stepOn (c .settings) (hostAt c h) cause in
+      (k ≡ done → Passes (c .settings) (hostAt c h) cause) → stepAtRefusal c h k step ≡ done
+      → FilledUpTo (stepLooked (c .slots) step) (c .slots) (stepped c h (c .slots) step .slots)
+  own-fills h k cause f e =
+      let p1 = unless-passed (cellOk c) refusedCell _ refl e in
+      let p2 = host-passed c h _ e in
+      let p3 = first-passed k _ (p2 .1) in
+      step-fills (c .slots) h cause (p1 .0) (p2 .0) (f (p3 .0)) (p3 .1)
+
+  -- an event on a slot that 12 does not refuse
+  slot-passed : (i : ℕ) (t : Content) (ks : List ℕ)
+      → firstOf (unless (cellOk c) refusedCell ∷ slotRefusal i t ∷ ks) ≡ done
+      → (cellOk c ≡ true) × (not (isEmpty t) ≡ true) × (firstOf ks ≡ done)
+  slot-passed i t ks e =
+      let p1 = unless-passed (cellOk c) refusedCell _ refl e in
+      let p2 = unless-passed (ltb i slotCount && not (isEmpty t)) refusedSlot ks refl (p1 .1) in
+      (p1 .0, both (ltb i slotCount) (not (isEmpty t)) (p2 .0) .1, p2 .1)
+
+  delivered-fills : (i : ℕ) (t : Content) → contentAt c i ≡ t
+      → firstOf (unless (cellOk c) refusedCell ∷ slotRefusal i t ∷ deliverFull c i t ∷ []) ≡ done
+      → FilledUpTo (deliverLooked c i t) (freed (c .slots) i) (delivered c i t .slots)
+  unfolding deliverFull deliverLooked delivered isEmpty
+  delivered-fills i Content.Empty q e = true-false (sym (slot-passed i Content.Empty _ e .1))
+  delivered-fills i (Content.One m) q e =
+      let p = slot-passed i (Content.One m) _ e in
+      let f = message-of c i m (p .0) q in
+      step-fills (freed (c .slots) i) (targetOf m) (gets m) (p .0)
+      (target-in (sizesOf (c .settings)) m f) f (p .2)
+
+  repeated-fills : (i : ℕ) (t : Content)
+      → firstOf (unless (cellOk c) refusedCell ∷ slotRefusal i t ∷ fullRefusal 1 (c .slots) ∷ [])
+      ≡ done → FilledUpTo (lookedFor 1 (c .slots)) (c .slots) (repeated c t .slots)
+  unfolding repeated isEmpty
+  repeated-fills i Content.Empty e = true-false (sym (slot-passed i Content.Empty _ e .1))
+  repeated-fills i (Content.One m) e =
+      slots.filled-one (c .slots) m
+      (room-for 1 (c .slots) (slot-passed i (Content.One m) _ e .2))
+
+  event-fills : (e : Event) → refusalOf c e ≡ done
+      → FilledUpTo (placingOf c e) (slotsFound c e) (afterOf c e .slots)
+  unfolding refusalOf placingOf slotsFound afterOf advancedAll advancedOne startAtRefusal
+      deliverRefusal repeatRefusal releaseAtRefusal
+  event-fills (AdvanceAll d) q = slots.filled-none (c .slots)
+  event-fills (AdvanceOne h d) q = slots.filled-none (c .slots)
+  event-fills (Start h d) q = own-fills h _ (begins d) (λ e. e) q
+  event-fills (Deliver i) q = delivered-fills i (contentAt c i) refl q
+  event-fills (Lose i) q = slots.filled-none (freed (c .slots) i)
+  event-fills (Repeat i) q = repeated-fills i (contentAt c i) q
+  event-fills (Restart h) q = slots.filled-none (c .slots)
+  event-fills (Release h) q = own-fills h _ letsGo (λ e. e) q
 
 -- ---- numbers that are not 13
 
@@ -209,6 +319,14 @@ module _ (c : Cell) (z : Sized c) where
 pub looked-is : (c : Cell) (e : Event) → eventOf c e .looked ≡ lookedOf c e
 looked-is c e = by-outcome (λ (x : Answered). x .looked ≡ lookedOf c e) c e (λ _. refl) (λ _. refl)
 
+pub done-looks : (c : Cell) (e : Event) → eventOf c e .answer ≡ done
+    → FilledUpTo (eventOf c e .looked) (slotsFound c e) (eventOf c e .slots)
+unfolding lookedOf
+done-looks c e =
+    by-outcome
+    (λ (x : Answered). x .answer ≡ done → FilledUpTo (x .looked) (slotsFound c e) (x .slots)) c e
+    (λ q _. rw q (event-fills c e q)) (λ n q. absurd (n q))
+
 pub refused-looks : (c : Cell) (e : Event) → (eventOf c e .answer ≡ done → ⊥)
     → NotFull (eventOf c e .answer) → eventOf c e .looked ≡ 0
 unfolding lookedOf
@@ -223,23 +341,3 @@ unfolding lookedOf
 full-looks c e z a =
     let q : refusalOf c e ≡ refusedFull = sym (answer-is c e) ∙ a in
     looked-is c e ∙ ap (λ (r : ℕ). countWith r (placingOf c e)) q ∙ full-placing c z e q
-
--- ---- what a step sends has as many receivers as 13 counts
-
--- the set has as many hosts as it has below n
-unfoldable pub Counted : ℕ → Sent → ℕ → Type 0
-Counted n Sent.Nothing receivers = Unit
-Counted n (Sent.One m) receivers = sizeOf receivers ≡ length (members n receivers)
-
-pub counted-writes : (s : Settings) (sent : Sent) (receivers : ℕ) → writes s sent receivers
-    → Counted (s .n) sent receivers
-unfolding writes Counted
-counted-writes s Sent.Nothing receivers w = tt
-counted-writes s (Sent.One m) receivers w =
-    let p = passed-to (sizesOf s) (numbersOf m) receivers w in
-    sym (members-length (s .n) receivers (ltb-true receivers (2 ^ s .n) (p .target)))
-
--- to one host
-pub counted-one : (n h : ℕ) (m : Message) → h < n → Counted n (Sent.One m) (singleOf h)
-unfolding Counted
-counted-one n h m b = size-single h ∙ sym (ap length (members-single n h b))

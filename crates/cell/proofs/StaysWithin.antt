@@ -37,7 +37,7 @@ use Rattle.cell.specs.declared.Event.{Event}
 use Rattle.cell.specs.declared.Event.the-variants.{AdvanceAll, AdvanceOne, Start, Deliver}
 use Rattle.cell.specs.declared.Event.the-variants.{Lose, Repeat, Restart, Release}
 use Rattle.cell.specs.declared.Answered.{Answered}
-use Rattle.cell.specs.CellLimits.{hostAt, withHost, contentAt, clocksNear, cellOk}
+use Rattle.cell.specs.CellLimits.{hostAt, withHostAt, contentAt, clocksNear, cellOk}
 use Rattle.cell.specs.Events.{answeredWith, cellOf, withSlots, sentTo, stepped}
 use Rattle.cell.specs.Events.{openingRefusal, openedWith, leastSettings, openingOf}
 use Rattle.cell.specs.Events.{hostsRefusal, advanceAllRefusal, advancedAll, advancedOne}
@@ -123,13 +123,13 @@ slots-kept c ss o l p =
 host-kept : (c : Cell) (h : ℕ) (x : Host) → Sound c → h < c .settings .n
     → x .number ≡ hostAt c h .number → hostOk (c .settings) x ≡ true
     → ((j k : ℕ) → j < c .settings .n → k < c .settings .n
-    → hostAt (withHost c h x) j .clock ≤ hostAt (withHost c h x) k .clock + c .settings .spread)
-    → Sound (withHost c h x)
+    → hostAt (withHostAt c h x) j .clock ≤ hostAt (withHostAt c h x) k .clock + c .settings .spread)
+    → Sound (withHostAt c h x)
 host-kept c h x o b e f near =
     let i = cell-in c (o .0) (o .1) in
     let z = sized-host c h x (o .0) in (
       z,
-      out-cell (withHost c h x) z (record {
+      out-cell (withHostAt c h x) z (record {
         settings = i .settings;
         number = λ k a.
             by-host c h x (λ y. y .number ≡ k) k (λ g. e ∙ i .number h b ∙ sym g) (i .number k a);
@@ -145,15 +145,15 @@ host-kept c h x o b e f near =
 -- one host replaced by one with the same clock
 pub still-near : (c : Cell) (h : ℕ) (x : Host) → CellIn c → x .clock ≡ hostAt c h .clock → (j k : ℕ)
     → j < c .settings .n → k < c .settings .n
-    → hostAt (withHost c h x) j .clock ≤ hostAt (withHost c h x) k .clock + c .settings .spread
+    → hostAt (withHostAt c h x) j .clock ≤ hostAt (withHostAt c h x) k .clock + c .settings .spread
 still-near c h x i t j k p q = rw (same j, same k) (i .near j k p q)
   where
-    same : (k : ℕ) → hostAt (withHost c h x) k .clock ≡ hostAt c k .clock
+    same : (k : ℕ) → hostAt (withHostAt c h x) k .clock ≡ hostAt c k .clock
     same k = by-host c h x (λ y. y .clock ≡ hostAt c k .clock) k (λ g. rw g t) refl
 
 still-kept : (c : Cell) (h : ℕ) (x : Host) → Sound c → h < c .settings .n
     → x .number ≡ hostAt c h .number → x .clock ≡ hostAt c h .clock → hostOk (c .settings) x ≡ true
-    → Sound (withHost c h x)
+    → Sound (withHostAt c h x)
 still-kept c h x o b e t f = host-kept c h x o b e f (still-near c h x (cell-in c (o .0) (o .1)) t)
 
 -- a step carried into the cell
@@ -164,7 +164,7 @@ step-kept : (c : Cell) (h : ℕ) (ss : List Slot) (step : Stepped) → Sound c �
 unfolding stepped
 step-kept c h ss step o b y f l p =
     let n = c .settings .n in
-    slots-kept (withHost c h (step .host)) (sentTo n ss (step .sent) (step .receivers))
+    slots-kept (withHostAt c h (step .host)) (sentTo n ss (step .sent) (step .receivers))
     (still-kept c h (step .host) o b (y .number) (y .clock) (f .kept))
     (length-sent n ss (step .sent) (step .receivers) ∙ l)
     (holds-sent (Sendable (sizesOf (c .settings))) n ss (step .sent) (step .receivers) p
@@ -212,9 +212,10 @@ kept-advance-one c h d o e =
     let x = advancedHost (hostAt c h) d in
     let p1 = host-passed c h _ e in
     let p2 = first-passed (advanceRefusal s (hostAt c h) d) _ (p1 .1) in
-    let p3 = unless-passed (clocksNear (withHost c h x)) refusedSpread [] refl (p2 .1) in
+    let p3 = unless-passed (clocksNear (withHostAt c h x)) refusedSpread [] refl (p2 .1) in
     host-kept c h x o (p1 .0) refl (fine-advance s (hostAt c h) d (p2 .0) .kept)
-    (near-in (withHost c h x) (sized-host c h x (o .0)) (cell-in c (o .0) (o .1) .settings) (p3 .0))
+    (near-in (withHostAt c h x) (sized-host c h x (o .0)) (cell-in c (o .0) (o .1) .settings)
+    (p3 .0))
 
 -- a host's own step that nothing refuses by k or for its place or its room
 kept-step-at : (c : Cell) (h k : ℕ) (cause : Cause)
@@ -261,7 +262,7 @@ kept-lose c i o =
     (cell-in c (o .0) (o .1) .messages))
 
 kept-restart : (c : Cell) (h : ℕ) → Sound c → restartAtRefusal c h ≡ done
-    → Sound (withHost c h (restartedHost (c .settings) (hostAt c h)))
+    → Sound (withHostAt c h (restartedHost (c .settings) (hostAt c h)))
 unfolding restartAtRefusal restartedHost
 kept-restart c h o e =
     let p1 = host-passed c h _ e in

@@ -16,8 +16,8 @@ abbrev pub hostAt : Cell → ℕ → Host
 hostAt c h = getD (c .hosts) h blankHost
 
 -- another host in its place
-abbrev pub withHost : Cell → ℕ → Host → Cell
-withHost c h x = record { settings = c .settings; hosts = set (c .hosts) h x; slots = c .slots }
+abbrev pub withHostAt : Cell → ℕ → Host → Cell
+withHostAt c h x = record { settings = c .settings; hosts = set (c .hosts) h x; slots = c .slots }
 
 -- what a slot holds
 abbrev pub contentAt : Cell → ℕ → Content

@@ -26,7 +26,7 @@ use Rattle.cell.specs.declared.Event.{Event}
 use Rattle.cell.specs.declared.Event.the-variants.{AdvanceAll, AdvanceOne, Start, Deliver}
 use Rattle.cell.specs.declared.Event.the-variants.{Lose, Repeat, Restart, Release}
 use Rattle.cell.specs.declared.Answered.{Answered}
-use Rattle.cell.specs.CellLimits.{hostAt, withHost, contentAt, clocksNear, cellOk}
+use Rattle.cell.specs.CellLimits.{hostAt, withHostAt, contentAt, clocksNear, cellOk}
 
 -- ---- parts of an event
 
@@ -77,7 +77,7 @@ sentTo n ss (Sent.One m) receivers = placedTo n ss m receivers
 -- a host's step carried into the cell, with these slots
 unfoldable pub stepped : Cell → ℕ → List Slot → Stepped → Cell
 stepped c h ss step =
-    withSlots (withHost c h (step .host))
+    withSlots (withHostAt c h (step .host))
     (sentTo (c .settings .n) ss (step .sent) (step .receivers))
 
 -- ---- opening: 1, 6
@@ -122,7 +122,7 @@ advancedAll c d =
 -- ---- advance one by d: 1, 5, 15, 14
 
 unfoldable pub advancedOne : Cell → ℕ → ℕ → Cell
-advancedOne c h d = withHost c h (advancedHost (hostAt c h) d)
+advancedOne c h d = withHostAt c h (advancedHost (hostAt c h) d)
 
 unfoldable pub advanceOneRefusal : Cell → ℕ → ℕ → ℕ
 advanceOneRefusal c h d =
@@ -247,7 +247,7 @@ afterOf c (Start h d) = stepped c h (c .slots) (startStep c h d)
 afterOf c (Deliver i) = delivered c i (contentAt c i)
 afterOf c (Lose i) = withSlots c (freed (c .slots) i)
 afterOf c (Repeat i) = repeated c (contentAt c i)
-afterOf c (Restart h) = withHost c h (restartedHost (c .settings) (hostAt c h))
+afterOf c (Restart h) = withHostAt c h (restartedHost (c .settings) (hostAt c h))
 afterOf c (Release h) = stepped c h (c .slots) (releaseStep c h)
 
 -- how many slots an event looks at to place what it sends, where it gets so far (02)

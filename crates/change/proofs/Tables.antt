@@ -42,7 +42,7 @@ use Rattle.cell.specs.declared.Cell.{Cell}
 use Rattle.cell.specs.declared.Event.{Event}
 use Rattle.cell.specs.declared.Event.the-variants.{AdvanceAll, AdvanceOne, Start, Deliver, Lose}
 use Rattle.cell.specs.declared.Event.the-variants.{Repeat, Restart, Release}
-use Rattle.cell.specs.CellLimits.{hostAt, withHost, contentAt, clocksNear, cellOk}
+use Rattle.cell.specs.CellLimits.{hostAt, withHostAt, contentAt, clocksNear, cellOk}
 use Rattle.cell.specs.Events.{answeredWith, answerWith, withSlots, hostRefusal, messagesIn}
 use Rattle.cell.specs.Events.{stepFull, stepLooked, sentTo, stepped, hostsRefusal}
 use Rattle.cell.specs.Events.{advanceAllRefusal}
@@ -191,21 +191,21 @@ target-small c i o = go (contentAt c i) refl
 module _ (c : Cell) (z : Sized c) (o : cellOk c ≡ true) where
   -- a host whose clock did not move stays near
   still-clocks : (h : ℕ) (x : Host) → x .clock ≡ hostAt c h .clock
-      → clocksNear (withHost c h x) ≡ true
+      → clocksNear (withHostAt c h x) ≡ true
   still-clocks h x t =
       let i = cell-in c z o in
-      out-near (withHost c h x) (sized-host c h x z) (i .settings) (still-near c h x i t)
+      out-near (withHostAt c h x) (sized-host c h x z) (i .settings) (still-near c h x i t)
 
   -- 14 and 13
   abbrev tail : ℕ → ℕ → Change → List ℕ
   tail i h k =
-      unless (clocksNear (withHost c h (k .host))) refusedSpread
+      unless (clocksNear (withHostAt c h (k .host))) refusedSpread
       ∷ stepFull (slotsAfter c i k) (stepOf k) ∷ []
 
-  near-passed : (i h : ℕ) (k : Change) → clocksNear (withHost c h (k .host)) ≡ true
+  near-passed : (i h : ℕ) (k : Change) → clocksNear (withHostAt c h (k .host)) ≡ true
       → firstOf (tail i h k) ≡ stepFull (slotsAfter c i k) (stepOf k)
   near-passed i h k e =
-      unless-next (clocksNear (withHost c h (k .host))) refusedSpread _ e
+      unless-next (clocksNear (withHostAt c h (k .host))) refusedSpread _ e
       ∙ first-only (stepFull (slotsAfter c i k) (stepOf k))
 
   still-passed : (i h : ℕ) (k : Change) → k .host .clock ≡ hostAt c h .clock
@@ -270,7 +270,7 @@ module _ (c : Cell) (z : Sized c) (o : cellOk c ≡ true) where
       host-row h (change (advanceOf s x d) false) (advanceRefusal s x d) _
       (lawful-advance s x d .number)
       (λ e.
-      first-same (unless (clocksNear (withHost c h (advancedHost x d))) refusedSpread) [] _
+      first-same (unless (clocksNear (withHostAt c h (advancedHost x d))) refusedSpread) [] _
       (λ _.
       sym (first-next _ []
       (quiet-full (slotsAfter c 0 (change (quietWith (advancedHost x d)) false))
@@ -323,7 +323,7 @@ module _ (c : Cell) (z : Sized c) (o : cellOk c ≡ true) where
       (sym (lawful-restart s x .carried-out e)))
 
   restart-after : (h : ℕ) → restartAtRefusal c h ≡ done
-      → withHost c h (restartedHost (c .settings) (hostAt c h))
+      → withHostAt c h (restartedHost (c .settings) (hostAt c h))
       ≡ changed c 0 h (change (restartOf (c .settings) (hostAt c h)) false)
   unfolding restartAtRefusal stepped sentTo
   restart-after h =
@@ -685,7 +685,7 @@ module _ {c : Cell} {e : Event} {i h : ℕ} {k : Change} (f : Found c e i h k) w
             (change-quiet (c .settings) e (hostAt c h) (contentAt c i) (rw (f .change-is) at n))
 
     module _ (q : k .answer ≡ done) where
-      pub spread-refused : clocksNear (withHost c h (k .host)) ≡ false
+      pub spread-refused : clocksNear (withHostAt c h (k .host)) ≡ false
           → answeredWith refusedSpread 0 c ≡ eventOf c e
       unfolding firstOf
       spread-refused l =
@@ -693,10 +693,10 @@ module _ {c : Cell} {e : Event} {i h : ℕ} {k : Change} (f : Found c e i h k) w
           (numbers-passed ∙ first-next (k .answer) (tail c (f .sized) (f .ok) i h k) q ∙ rw l)
 
       -- a clock that did not move is near
-      pub still : k .host .clock ≡ hostAt c h .clock → clocksNear (withHost c h (k .host)) ≡ true
+      pub still : k .host .clock ≡ hostAt c h .clock → clocksNear (withHostAt c h (k .host)) ≡ true
       still t = still-clocks c (f .sized) (f .ok) h (k .host) t
 
-      module _ (near : clocksNear (withHost c h (k .host)) ≡ true) where
+      module _ (near : clocksNear (withHostAt c h (k .host)) ≡ true) where
         full-is : changeRefusal c i h k ≡ stepFull (slotsAfter c i k) (stepOf k)
         full-is = numbers-passed ∙ first-next (k .answer) _ q
             ∙ near-passed c (f .sized) (f .ok) i h k near
@@ -715,13 +715,13 @@ module _ {c : Cell} {e : Event} {i h : ℕ} {k : Change} (f : Found c e i h k) w
         committed l = event-done (full-is ∙ rw (le-leb count (empties (slotsAfter c i k)) l))
 
       -- what is sent, and to whom
-      pub committed-quiet : clocksNear (withHost c h (k .host)) ≡ true → k .sent ≡ Sent.Nothing
-          → answeredWith done 0 (withSlots (withHost c h (k .host)) (slotsAfter c i k))
+      pub committed-quiet : clocksNear (withHostAt c h (k .host)) ≡ true → k .sent ≡ Sent.Nothing
+          → answeredWith done 0 (withSlots (withHostAt c h (k .host)) (slotsAfter c i k))
           ≡ eventOf c e
       unfolding stepped sentTo messagesIn lookedFor
       committed-quiet near t = rw t at (committed near (rw t (omega arith)))
 
-      module _ (near : clocksNear (withHost c h (k .host)) ≡ true) (m : Message)
+      module _ (near : clocksNear (withHostAt c h (k .host)) ≡ true) (m : Message)
           (t : k .sent ≡ Sent.One m)
         where
           -- to whom it is placed
@@ -738,7 +738,7 @@ module _ {c : Cell} {e : Event} {i h : ℕ} {k : Change} (f : Found c e i h k) w
 
           pub committed-sent : length to ≤ empties (slotsAfter c i k)
               → answeredWith done (lookedFor (length to) (slotsAfter c i k))
-              (withSlots (withHost c h (k .host)) (placedEach (slotsAfter c i k) m to))
+              (withSlots (withHostAt c h (k .host)) (placedEach (slotsAfter c i k) m to))
               ≡ eventOf c e
           unfolding stepped sentTo
           committed-sent l = rw t at (rw counts at (committed near (rw counts l)))

@@ -22,7 +22,7 @@ use Rattle.cell.specs.declared.Cell.{Cell}
 use Rattle.cell.specs.declared.Event.{Event}
 use Rattle.cell.specs.declared.Event.the-variants.{AdvanceAll, AdvanceOne, Start, Deliver, Lose}
 use Rattle.cell.specs.declared.Event.the-variants.{Repeat, Restart, Release}
-use Rattle.cell.specs.CellLimits.{withHost, clocksNear}
+use Rattle.cell.specs.CellLimits.{withHostAt, clocksNear}
 use Rattle.cell.specs.Events.{hostRefusal, stepFull, stepped}
 use Rattle.change.specs.declared.Change.{Change}
 
@@ -126,7 +126,7 @@ changeRefusal c i h k =
     unless (ltb i slotCount) refusedSlot
     ∷ hostRefusal c h
     ∷ k .answer
-    ∷ unless (clocksNear (withHost c h (k .host))) refusedSpread
+    ∷ unless (clocksNear (withHostAt c h (k .host))) refusedSpread
     ∷ stepFull (slotsAfter c i k) (stepOf k)
     ∷ []
     )

@@ -6,11 +6,12 @@ use Prim.Native.Nat.{ℕ, suc, _+_, _*_, _≤_, _<_, _^_}
 use native.Mathlib.Nat.{add-mul, one-mul, zero-mul}
 use native.Mathlib.Omega.{arith}
 use lib.Count.{ones}
-use lib.ListN.{length, length-append}
+use lib.ListN.{length, drop, length-append}
 use lib.Dec.{ltb, leb, eqb}
 use borrow.Author.Tests.{leb-true, ltb-true, le-leb, lt-leb, ne-eqb}
 use Rattle.base.specs.Refusals.{unless, firstOf, refusedCell, refusedRoom, testsIn, failsAt}
-use Rattle.base.specs.Refusals.{placeBy, allHold, refusedHost, refusedTick, refusedParty}
+use Rattle.base.specs.Refusals.{answerBy, placeBy, allHold, refusedLength, refusedHost}
+use Rattle.base.specs.Refusals.{refusedTick, refusedParty, refusedShort}
 use Rattle.base.specs.Lists.{allOf}
 use Rattle.base.proofs.Tests.{both, first-passed, unless-passed, first-same, first-append}
 use Rattle.quorum.specs.Sets.{mostHosts, members}
@@ -22,15 +23,30 @@ use Rattle.message.specs.Message.{knownKind, numbersOf, messageOf, withTarget}
 use Rattle.message.specs.Faults.{sizesFit, hostTests, tickTests, partyFits, refusalsOf, faultOf}
 use Rattle.message.specs.Faults.{faultTo}
 use Rattle.message.proofs.Laws.{passed-to}
-use Rattle.layout.specs.Layout.{kindLength, offsetOf, bytesOf, numbersIn}
-use Rattle.layout.proofs.Laws.{message-place, bytes-length}
+use Rattle.layout.specs.Layout.{kindLength, offsetOf, foreLength, bytesOf, numbersIn}
+use Rattle.layout.proofs.Laws.{message-place, short-refused, long-refused, bytes-length}
 use Rattle.frame.specs.declared.Found.the-variants.{Frame, Fault}
 use Rattle.frame.specs.declared.Reading.the-variants.{Whole, Refused}
-use Rattle.frame.specs.Reading.{toldLength, toldKind, readAnswer, readOffset, readOf}
+use Rattle.frame.specs.Reading.{toldLength, toldKind, readRefusals, readAnswer, readOffset}
+use Rattle.frame.specs.Reading.{readOf}
 use Rattle.frame.specs.Writing.{frameOf, writeAnswer, framesIn, framesOf, answerTo}
 use Rattle.frame.specs.Parts.{foundOf, readingOf, answerOf}
 
 -- ---- reading
+
+-- with a cell that fits, 4 bytes and a known kind, the length field is looked at next, and refused
+-- where it is below, or above, the kind's length
+module _ (z : Sizes) (s : List ℕ) (c : sizesFit z ≡ true) (l : foreLength ≤ length s)
+    (k : knownKind (toldKind s) ≡ true) where
+  length-next : readAnswer z s ≡ answerBy (drop 3 (readRefusals z s))
+  unfolding readAnswer firstOf allOf
+  length-next = rw (c, le-leb foreLength (length s) l, k)
+
+  pub too-short : toldLength s < kindLength (toldKind s) → readAnswer z s ≡ refusedShort
+  too-short t = length-next ∙ short-refused _ _ (drop 5 (readRefusals z s)) t
+
+  pub too-long : kindLength (toldKind s) < toldLength s → readAnswer z s ≡ refusedLength
+  too-long t = length-next ∙ long-refused _ _ (drop 5 (readRefusals z s)) t
 
 -- the cell fits, and the frame is whole
 pub record Tested (z : Sizes) (s : List ℕ) : Type 0 where
@@ -110,6 +126,12 @@ pub answer-done : (z : Sizes) (bad total room : ℕ) → sizesFit z ≡ true →
     → answerOf z bad total room ≡ 0
 unfolding answerOf firstOf
 answer-done z bad total room c e l = rw (c, e, le-leb total room l)
+
+-- with room, the answer does not depend on how much there is
+pub answer-roomy : (z : Sizes) (bad total room total′ room′ : ℕ) → total ≤ room → total′ ≤ room′
+    → answerOf z bad total room ≡ answerOf z bad total′ room′
+unfolding answerOf
+answer-roomy z bad total room total′ room′ l l′ = rw (le-leb total room l, le-leb total′ room′ l′)
 
 -- what the code finds is the answer of the list of refusals
 answer-found : (z : Sizes) (ks bytes : List ℕ) (total room : ℕ)

@@ -1,7 +1,7 @@
 -- What is claimed of reading and writing together, in one place; proofs/Claims.antt proves it.
 -- Assumes nothing.
 use mathlib.Core.Path.{_≡_}
-use mathlib.Core.Bool.{cond}
+use mathlib.Core.Bool.{true, cond}
 use mathlib.Core.List.{List, [], _∷_, _++_}
 use Prim.Native.Nat.{ℕ, _≤_, _<_}
 use lib.ListN.{length, getD, take, drop}
@@ -9,12 +9,12 @@ use lib.Dec.{eqb}
 use Rattle.base.specs.Refusals.{done, refusedCell, refusedCut, refusedLength, refusedParty}
 use Rattle.base.specs.Refusals.{refusedShort, test, Refusal, refusal, answerBy}
 use Rattle.base.specs.Claims.{GivenAt, Lowest}
-use Rattle.quorum.specs.Sets.{Member, members}
+use Rattle.quorum.specs.Sets.{isIn, members}
 use Rattle.message.specs.declared.Sizes.{Sizes}
 use Rattle.message.specs.declared.Message.{Message}
-use Rattle.message.specs.Message.{isResponse, numbersOf, messageOf, addressedTo}
-use Rattle.message.specs.Faults.{Field, frameLength}
-use Rattle.layout.specs.Layout.{Fit, kindLength, placeIn, numbersIn}
+use Rattle.message.specs.Message.{knownKind, isResponse, numbersOf, messageOf, addressedTo}
+use Rattle.message.specs.Faults.{Field, frameLength, sizesFit}
+use Rattle.layout.specs.Layout.{Fit, kindLength, placeIn, foreLength, numbersIn}
 use Rattle.frame.specs.declared.Reading.{Reading}
 use Rattle.frame.specs.declared.Reading.the-variants.{Whole, Refused}
 use Rattle.frame.specs.Reading.{toldLength, toldKind, refusalsWith, readRefusals, readAnswer}
@@ -57,7 +57,14 @@ placesIn s = placeIn (length s) (toldKind s)
 pub record Claims : Type 0 where
   -- reading's number is that of the first refusal that applies
   pub number : (z : Sizes) (s : List ℕ) → numberOf (readOf z s) ≡ readAnswer z s
-  -- with 17 taken as 4 it is the reading of before
+  -- 17 and 4: in a frame of a known kind a length below, and above, that of the kind
+  pub too-short : (z : Sizes) (s : List ℕ) → sizesFit z ≡ true → foreLength ≤ length s
+      → knownKind (toldKind s) ≡ true → toldLength s < kindLength (toldKind s)
+      → readAnswer z s ≡ refusedShort
+  pub too-long : (z : Sizes) (s : List ℕ) → sizesFit z ≡ true → foreLength ≤ length s
+      → knownKind (toldKind s) ≡ true → kindLength (toldKind s) < toldLength s
+      → readAnswer z s ≡ refusedLength
+  -- with 17 taken as 4 reading is that of before
   pub former : (z : Sizes) (s : List ℕ) → asFormer (readOf z s) ≡ formerOf z s
   -- its length is that of the kind's frames, and 0 where it is refused
   pub read-length : (z : Sizes) (s : List ℕ)
@@ -103,10 +110,19 @@ pub record Claims : Type 0 where
   pub set-in-turn : (z : Sizes) (m : Message) (set : ℕ) (out : List ℕ)
       → answerTo z m set (length out) ≡ done
       → afterWriteTo z m set out ≡ inTurn z m (members (z .n) set) out
-  -- and to none of them is the message refused where its frame has room
+  -- and to no host that the set names is the message refused where its frame has room
   pub each-written : (z : Sizes) (m : Message) (set room h : ℕ) → answerTo z m set room ≡ done
-      → Member (z .n) set h → (room′ : ℕ) → length (frameOf (addressedTo m h)) ≤ room′
+      → isIn set h ≡ true → (room′ : ℕ) → length (frameOf (addressedTo m h)) ≤ room′
       → writeAnswer z (addressedTo m h) room′ ≡ done
+  -- the other way round, for a set that names a host: where the message is written to each that it
+  -- names, and there is room for all the frames, writing to the set answers 0
+  pub set-written : (z : Sizes) (m : Message) (set room : ℕ) → 0 < set
+      → ((h : ℕ) → isIn set h ≡ true → writeAnswer z (addressedTo m h) room ≡ done)
+      → length (framesOf z m set) ≤ room → answerTo z m set room ≡ done
+  -- writing to an empty set answers as writing to the ballot's host does where its frame has room
+  pub empty-written : (z : Sizes) (m : Message) (room room′ : ℕ) →
+      let own = addressedTo m (numbersOf m .ballot .host) in
+      length (frameOf own) ≤ room′ → answerTo z m 0 room ≡ writeAnswer z own room′
   -- writing to a set does not look at the message's own target
   pub target-unread : (z : Sizes) (m : Message) (h set room : ℕ)
       → (answerTo z (addressedTo m h) set room ≡ answerTo z m set room)

@@ -18,9 +18,10 @@ pub record Placed (s : Settings) (h : Host) : Type 0 where
   pub number : h .number < s .n
   pub clock : h .clock ≤ lastTick
 
--- a round that asks, in such a cell
-pub record Asks (s : Settings) (a : Asking) : Type 0 where
+-- a round that asks, at such a host
+pub record Asks (s : Settings) (h : Host) (a : Asking) : Type 0 where
   pub few : s .n < 16
+  pub clock : h .clock ≤ lastTick
   pub tick : a .ballot .tick ≤ lastTick
   pub duration : a .duration ≤ 2 ^ 31
 

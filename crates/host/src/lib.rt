@@ -9,6 +9,7 @@ ghost use Rattle.message.specs.declared.Message.the-variants.{PrepareResponseLe
 ghost use Rattle.message.specs.declared.Message.the-variants.{ProposeResponse, Learn};
 ghost use Rattle.message.specs.declared.Message.the-variants.{ReleaseRequest};
 ghost use Rattle.message.specs.Message.{lastTick};
+ghost use Rattle.rules.specs.Rules.{ballotAt};
 ghost use Rattle.host.specs.Parts.{Handed};
 ghost use Rattle.host.specs.Steps.{hostOk, unsentWith, refusedWith, quietWith, sendingWith};
 ghost use Rattle.host.specs.Steps.{withState, withRound, withVote, withNamed, headFrom};
@@ -184,6 +185,13 @@ impl Host {
         ensures { λ r. ⌜ r ≡ headFrom self ballot ⌝ }
     {
         message::head_with(self.number, ANY_TARGET, ballot)
+    }
+
+    // The ballot of a start or a release. Its tick is the clock, which no restart takes back.
+    fn next_ballot(self) -> Ballot
+        ensures { λ r. ⌜ r ≡ ballotAt (self .clock) (self .number) ⌝ }
+    {
+        rules::ballot_at(self.clock, self.number)
     }
 
     // The clock rises, and the state ages with it.

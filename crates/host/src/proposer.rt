@@ -64,11 +64,11 @@ impl Host {
         let promised = t.promised;
         let accepted = t.accepted;
         let named = t.named;
-        let ballot = rules::ballot_at(self.clock, self.number);
+        let ballot = self.next_ballot();
         self.with_state(State {
             promised,
             accepted,
-            last: LastBallot::At(self.clock),
+            last: LastBallot::At(ballot.tick),
             round: Round::Asking(Asking {
                 ballot,
                 duration,
@@ -84,13 +84,13 @@ impl Host {
         requires { ⌜ s .n < 16 ⌝ }
         ensures { λ r. ⌜ r ≡ onStart s self duration ⌝ }
     {
-        let ballot = rules::ballot_at(self.clock, self.number);
+        let ballot = self.next_ballot();
         let m = Message::PrepareRequest(self.head_from(ballot));
         sending_with(self.asking_host(duration), m, quorum::everyone_of(s.n))
     }
 
     fn proposed_value(self, s: Settings, a: Asking) -> Value
-        requires { ⌜ Asks s a ⌝ }
+        requires { ⌜ Asks s self a ⌝ }
         ensures { λ r. ⌜ r ≡ proposedValue s self a ⌝ }
     {
         let kept = a.kept;
@@ -121,7 +121,7 @@ impl Host {
 
     // A reply was counted: before is who had replied before it.
     fn on_counted_reply(self, s: Settings, before: u16, a: Asking) -> Stepped
-        requires { ⌜ Asks s a ⌝ }
+        requires { ⌜ Asks s self a ⌝ }
         ensures { λ r. ⌜ r ≡ onCountedReply s self before a ⌝ }
     {
         if !rules::acts_on(s.n, before, a.replied) {
@@ -133,7 +133,7 @@ impl Host {
     }
 
     fn on_reply(self, s: Settings, a: Asking, m: Head, reply: Accepted) -> Stepped
-        requires { ⌜ (m .sender < 16) × Asks s a ⌝ }
+        requires { ⌜ (m .sender < 16) × Asks s self a ⌝ }
         ensures { λ r. ⌜ r ≡ onReply s self a m reply ⌝ }
     {
         if !a.ballot.is_same(m.ballot) {

@@ -15,7 +15,8 @@ impl Host {
         ensures { λ r. ⌜ r ≡ releasingHost self ⌝ }
     {
         let t = self.state;
-        self.with_state(t.released_at(self.clock))
+        let ballot = self.next_ballot();
+        self.with_state(t.released_at(ballot.tick))
     }
 
     // Letting go is told to all hosts.
@@ -23,7 +24,7 @@ impl Host {
         requires { ⌜ s .n < 16 ⌝ }
         ensures { λ r. ⌜ r ≡ onRelease s self ⌝ }
     {
-        let ballot = rules::ballot_at(self.clock, self.number);
+        let ballot = self.next_ballot();
         let m = Message::ReleaseRequest(self.head_from(ballot));
         sending_with(self.releasing_host(), m, quorum::everyone_of(s.n))
     }

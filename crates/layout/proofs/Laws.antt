@@ -1,5 +1,5 @@
--- Laws of the layout: the lengths of frames, where refusals are found, and numbers as bytes and
--- back. Assumes nothing.
+-- Laws of the layout: the lengths of frames, where refusals are found, a length field that is too
+-- short or too long, and numbers as bytes and back. Assumes nothing.
 use mathlib.Core.Path.{_≡_, refl, sym, ap, _∙_}
 use mathlib.Core.Bool.{Bool, true, false, cond}
 use mathlib.Core.List.{List, [], _∷_, _++_, map}
@@ -8,8 +8,10 @@ use native.Mathlib.Nat.{zero-add}
 use native.Mathlib.Omega.{arith}
 use lib.ListN.{length, getD, take, length-map}
 use lib.Dec.{lit<, lit≤, ltb, eqb}
-use Rattle.base.specs.Refusals.{test, allHold, testsIn, failsAt, placeBy}
-use Rattle.base.specs.Lists.{All}
+use borrow.Author.Tests.{le-leb, lt-leb}
+use Rattle.base.specs.Refusals.{refusedLength, refusedShort, firstOf, test, Refusal, allHold}
+use Rattle.base.specs.Refusals.{answerBy, testsIn, failsAt, placeBy}
+use Rattle.base.specs.Lists.{All, allOf}
 use Rattle.base.proofs.Places.{fails-append, fails-same}
 use Rattle.wire.specs.Wire.{numberAt, total, numbersAt, packed}
 use Rattle.wire.proofs.Laws.{Fits, packed-length, numbers-packed, packed-numbers, numbers-within}
@@ -28,7 +30,7 @@ use Rattle.message.specs.Faults.{hostTests, tickTests, partyField, partyFits, r
 use Rattle.message.proofs.Laws.{by-kind}
 use Rattle.layout.specs.Layout.{Fit, widthOf, common, moreOf, fieldsOf, widths, kindLength}
 use Rattle.layout.specs.Layout.{fieldNumber, offsetIn, offsetOf, placeIn, lengthOffset}
-use Rattle.layout.specs.Layout.{kindOffset, foreLength}
+use Rattle.layout.specs.Layout.{kindOffset, foreLength, lengthRefusals}
 use Rattle.layout.specs.Layout.{valueOf, bytesIn, bytesOf, valueIn}
 use Rattle.layout.specs.Parts.{ballotOffset, headLength, mostLength, valueEnd}
 use Rattle.layout.specs.Layout.{numbersFrom, numbersIn}
@@ -208,6 +210,19 @@ message-place lent k z f =
         ),
       ),
     )
+
+-- ---- a length field that is too short or too long, whatever else is refused after it
+
+pub short-refused : (told right : ℕ) (rs : List (Refusal Field)) → told < right
+    → answerBy (lengthRefusals told right ++ rs) ≡ refusedShort
+unfolding firstOf allOf
+short-refused told right rs t = rw (lt-leb right told t)
+
+pub long-refused : (told right : ℕ) (rs : List (Refusal Field)) → right < told
+    → answerBy (lengthRefusals told right ++ rs) ≡ refusedLength
+unfolding firstOf allOf
+long-refused told right rs t =
+    rw (le-leb right told (omega (arith, t)), lt-leb told right t)
 
 -- ---- numbers as bytes
 

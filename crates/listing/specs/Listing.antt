@@ -1,10 +1,11 @@
 -- The listing of a run file: what the file says, the lines of that, and what the function gives.
 -- Assumes nothing.
-use Prim.Native.Nat.{ℕ, zero, suc, _+_}
+use Prim.Native.Nat.{ℕ, zero, suc, _+_, _≤_}
+use mathlib.Core.Path.{_≡_}
 use mathlib.Core.Bool.{cond}
 use mathlib.Core.List.{List, [], _∷_, _++_}
 use lib.Dec.{ltb, leb, eqb}
-use lib.ListN.{length, drop}
+use lib.ListN.{length, take, drop}
 use Rattle.base.specs.Refusals.{done, refusedRoom, refusedLong}
 use Rattle.rules.specs.declared.Named.{Named}
 use Rattle.state.specs.declared.Settings.{Settings}
@@ -120,13 +121,25 @@ listingOf s = textOf (linesOf s)
 abbrev pub listingRoom : ℕ
 listingRoom = 655488
 
+-- and those of the one line of a file that is too long
+abbrev pub longRoom : ℕ
+longRoom = 12
+
+-- the least room for the listing of a file: 16 is looked at first
+unfoldable pub roomFor : List ℕ → ℕ
+roomFor s = cond (ltb longestRun (length s)) longRoom listingRoom
+
 -- a room below that is 8, and is left as it is
 unfoldable pub listedOf : List ℕ → ℕ → Listed
 listedOf s room =
-    cond (ltb room listingRoom) (record { answer = refusedRoom; len = 0 })
+    cond (ltb room (roomFor s)) (record { answer = refusedRoom; len = 0 })
     (record { answer = done; len = length (listingOf s) })
 
 unfoldable pub afterListing : List ℕ → List ℕ → List ℕ
 afterListing s out =
     let bytes = listingOf s in
-    cond (ltb (length out) listingRoom) out (bytes ++ drop (length bytes) out)
+    cond (ltb (length out) (roomFor s)) out (bytes ++ drop (length bytes) out)
+
+-- n counts bytes at the start of xs, said in the two ways by which `&out[..n]` needs no proof
+abbrev pub Counts : ℕ → List ℕ → Type 0
+Counts n xs = (n ≤ length xs) × (n ≡ length (take n xs))

@@ -1,11 +1,9 @@
--- The lines as the loop writes them, with its counts so far, and what a caller of the listing
--- needs. No claim rests on it. Assumes nothing.
-use mathlib.Core.Path.{_≡_}
+-- The lines as the loop writes them, with its counts so far. No claim rests on it. Assumes nothing.
 use Prim.Native.Nat.{ℕ, _+_, _-_, _*_, _≤_}
 use mathlib.Core.Bool.{cond}
 use mathlib.Core.List.{List, [], _∷_}
 use lib.Dec.{eqb}
-use lib.ListN.{length, take}
+use lib.ListN.{length}
 use Rattle.base.specs.Refusals.{done}
 use Rattle.cell.specs.declared.Cell.{Cell}
 use Rattle.cell.specs.Events.{cellOf, eventOf}
@@ -43,10 +41,6 @@ pub record Begins (run out : List ℕ) (from : ℕ) (c : Cell) : Type 0 where
   pub short : length run ≤ longestRun
   pub room : from + 10 * (length run - settingsLength) + 128 ≤ length out
   pub sound : Sound c
-
--- n counts bytes at the start of xs, said in the two ways by which `&out[..n]` needs no proof
-abbrev pub Counts : ℕ → List ℕ → Type 0
-Counts n xs = (n ≤ length xs) × (n ≡ length (take n xs))
 
 -- the walk past an event: its answer is counted
 unfoldable pub walkedTo : Walk → ℕ → ℕ → ℕ → Walk

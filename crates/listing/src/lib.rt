@@ -1,12 +1,14 @@
-// What the listing of a run file is, and the parts of it that need no cell: how far the walk has
-// come, and how a listing ends. The crate `player` writes the rest.
+// What the listing of a run file is, and the parts of it that need no cell: the room for it, how
+// far the walk has come, how a listing ends, and that of a file that is too long. The crate
+// `player` writes the rest.
 ghost use mathlib.Core.Path.{_≡_};
 ghost use Prim.Native.Nat.{_+_, _≤_, _<_};
 ghost use lib.Dec.{ltb};
 ghost use lib.ListN.{length};
 ghost use Rattle.text.specs.Parts.{Put};
-ghost use Rattle.lines.specs.Lines.{textOf};
-ghost use Rattle.listing.specs.Listing.{longestRun};
+ghost use Rattle.base.specs.Refusals.{refusedLong};
+ghost use Rattle.lines.specs.Lines.{stop, lineText, textOf};
+ghost use Rattle.listing.specs.Listing.{longestRun, longRoom, roomFor};
 ghost use Rattle.listing.specs.Parts.{doneOf, lastLines, walkedTo};
 use base::DONE;
 use record::Record;
@@ -28,11 +30,36 @@ pub struct Listed {
 // The longest run file.
 const LONGEST_RUN: usize = 65536;
 
+// The bytes that the listing of every run file fits into, and those of the line of one that is too
+// long.
+const LISTING_ROOM: usize = 655488;
+
+const LONG_ROOM: usize = 12;
+
 // Whether a run file of so many bytes is too long.
 pub fn is_long(len: usize) -> bool
     ensures { λ r. ⌜ r ≡ ltb longestRun len ⌝ }
 {
     LONGEST_RUN < len
+}
+
+// The least room for the listing of a run file.
+pub fn room_for(run: &[u8]) -> usize
+    ensures { λ r. ⌜ r ≡ roomFor (now (run .entry)) ⌝ }
+{
+    if is_long(run.len()) {
+        return LONG_ROOM;
+    }
+    LISTING_ROOM
+}
+
+// The listing of a run file that is too long.
+pub fn put_long(out: &mut [u8]) -> usize
+    requires { ⌜ longRoom ≤ length (now out) ⌝ }
+    ensures { λ r. ⌜ Put (now (out .entry)) 0 (lineText (stop 0 refusedLong 0)) r
+        (now (out .exit)) ⌝ }
+{
+    text::put_word(out, 0, b"stop 0 16 0\n")
 }
 
 fn done_of(answer: u8) -> u64

@@ -3,8 +3,9 @@
 use mathlib.Core.Path.{_≡_, refl, sym}
 use mathlib.Core.Bool.{Bool, true, false, cond}
 use mathlib.Core.List.{[], _∷_}
-use Prim.Native.Nat.{ℕ, zero, suc, _≤_, _<_}
+use Prim.Native.Nat.{ℕ, zero, suc, _^_, _≤_, _<_}
 use native.Mathlib.Omega.{arith}
+use lib.Pow.{pow-pos}
 use lib.Dec.{ltb, leb, eqb}
 use borrow.Author.Tests.{ltb-true, leb-true, eqb-true, lt-ltb, le-ltb, le-leb, eq-eqb, ne-eqb}
 use Rattle.base.specs.Refusals.{firstOf, allHold, answerBy, refusedHost, refusedTick, refusedParty}
@@ -12,7 +13,7 @@ use Rattle.base.specs.Lists.{All, allOf}
 use Rattle.base.proofs.Tests.{both, unless-passed}
 use Rattle.base.proofs.Lists.{all-of-in, out-all-of}
 use Rattle.quorum.specs.Sets.{Member, isIn, isBelow, isOnly}
-use Rattle.quorum.proofs.Laws.{only-one}
+use Rattle.quorum.proofs.Laws.{only-one, some-host, named-below, named-only}
 use Rattle.message.specs.declared.Ballot.{Ballot}
 use Rattle.message.specs.declared.Sizes.{Sizes}
 use Rattle.message.specs.declared.Numbers.{Numbers}
@@ -196,6 +197,54 @@ pub passing-to : (z : Sizes) (f : Numbers) (set : ℕ)
     → Passed z f (isBelow set (z .n)) (partyFitsTo f set) → faultTo z f set ≡ 0
 unfolding faultTo
 passing-to z f set i = passing z f _ _ i
+
+-- a message to no host is refused as the one to its ballot's host is
+pub fault-none : (z : Sizes) (f : Numbers)
+    → faultTo z f 0 ≡ faultOf z (withTarget f (f .ballot .host))
+unfolding faultTo faultOf partyFits partyFitsTo allOf
+fault-none z f =
+    let h = f .ballot .host in
+    rw (lt-ltb 0 (2 ^ z .n) (pow-pos (z .n)), eq-eqb h h refl)
+    (go (ltb h (z .n)) refl (partyFitsTo f 0))
+  where
+    go : (b : Bool) → ltb (f .ballot .host) (z .n) ≡ b → (p : Bool)
+        → answerBy (messageRefusals z f true p)
+        ≡ answerBy (messageRefusals z f (ltb (f .ballot .host) (z .n)) p)
+    go true e p = rw e
+    go false e p = rw e
+
+-- what may be sent to each host that a set names may be sent to the set, if it names one
+
+party-all : (b : Bool) (f : Numbers) (set g : ℕ) → isIn set g ≡ true
+    → ((h : ℕ) → isIn set h ≡ true
+    → cond b (eqb h (f .ballot .host)) (eqb (f .sender) (f .ballot .host)) ≡ true)
+    → cond b (isOnly set (f .ballot .host)) (eqb (f .sender) (f .ballot .host)) ≡ true
+party-all true f set g m e =
+    named-only set (f .ballot .host) (λ h i. eqb-true h (f .ballot .host) (e h i))
+party-all false f set g m e = e g m
+
+pub fault-all : (z : Sizes) (f : Numbers) (set : ℕ) → 0 < set
+    → ((h : ℕ) → isIn set h ≡ true → faultOf z (withTarget f h) ≡ 0) → faultTo z f set ≡ 0
+unfolding partyFits partyFitsTo
+fault-all z f set p e =
+    let one = some-host set p in
+    let each : (h : ℕ) → isIn set h ≡ true
+    → Passed z (withTarget f h) (ltb h (z .n)) (partyFits (withTarget f h)) =
+    λ h i. fault-passed z (withTarget f h) (e h i) in
+    let q = each (one .0) (one .1) in
+    passing-to z f set (record {
+      sender = q .sender;
+      target = named-below (z .n) set (λ h i. ltb-true h (z .n) (each h i .target));
+      ballotHost = q .ballotHost;
+      acceptedHost = q .acceptedHost;
+      owner = q .owner;
+      ballotTick = q .ballotTick;
+      acceptedTick = q .acceptedTick;
+      keepersEnd = q .keepersEnd;
+      holdersEnd = q .holdersEnd;
+      party =
+          party-all (isResponse (f .kind)) f set (one .0) (one .1) (λ h i. each h i .party);
+    })
 
 party-each : (b : Bool) (f : Numbers) (set h : ℕ) → isIn set h ≡ true
     → cond b (isOnly set (f .ballot .host)) (eqb (f .sender) (f .ballot .host)) ≡ true

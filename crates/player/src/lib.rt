@@ -7,12 +7,11 @@ ghost use Rattle.text.specs.Parts.{Put};
 ghost use Rattle.lines.specs.Lines.{textOf};
 ghost use Rattle.cell.specs.Events.{cellOf};
 ghost use Rattle.listing.specs.Listing.{longestRun, scriptOf, openedLines, listingOf, listingRoom};
-ghost use Rattle.listing.specs.Listing.{listedOf, afterListing};
-ghost use Rattle.listing.specs.Parts.{linesAfter, Begins, Counts};
+ghost use Rattle.listing.specs.Listing.{roomFor, listedOf, afterListing, Counts};
+ghost use Rattle.listing.specs.Parts.{linesAfter, Begins};
 use acts::Act;
 use base::DONE;
 use base::REFUSED_FULL;
-use base::REFUSED_LONG;
 use base::REFUSED_ROOM;
 use cell::Answered;
 use host::Sent;
@@ -25,9 +24,6 @@ use slots::Content;
 use slots::SLOTS;
 use slots::Slot;
 use state::Settings;
-
-// The bytes that the listing of every run file fits into.
-pub const LISTING_ROOM: usize = 655488;
 
 // The lines of the events, the stop and the counts, from an opened cell on. The cell is handed to
 // no function, since that would copy it: hosts and slots are locals of this loop, the rules are
@@ -219,11 +215,11 @@ fn put_opened(run: &[u8], out: &mut [u8], s: Settings, clock: u64) -> usize
 
 // The listing of any bytes.
 fn put_listing(run: &[u8], out: &mut [u8]) -> usize
-    requires { ⌜ listingRoom ≤ length (now out) ⌝ }
+    requires { ⌜ roomFor (now run) ≤ length (now out) ⌝ }
     ensures { λ r. ⌜ Put (now (out .entry)) 0 (listingOf (now (run .entry))) r (now (out .exit)) ⌝ }
 {
     if listing::is_long(run.len()) {
-        return lines::put_stop(out, 0, 0, REFUSED_LONG, 0);
+        return listing::put_long(out);
     }
     let first = record::first_record(run);
     let First::Given(s, clock) = first else {
@@ -234,14 +230,14 @@ fn put_listing(run: &[u8], out: &mut [u8]) -> usize
     put_opened(run, out, s, clock)
 }
 
-// Writes the listing of a run file at the start of out. Refused by 8 where out is shorter than
-// LISTING_ROOM, and then out is left as it is.
+// Writes the listing of a run file at the start of out. Refused by 8 where out is shorter than the
+// room for it, and then out is left as it is.
 pub fn list(run: &[u8], out: &mut [u8]) -> Listed
     ensures { λ r. ⌜ (r ≡ listedOf (now (run .entry)) (length (now (out .entry))))
         × ((now (out .exit) ≡ afterListing (now (run .entry)) (now (out .entry)))
         × Counts (r .len) (now (out .exit))) ⌝ }
 {
-    if out.len() < LISTING_ROOM {
+    if out.len() < listing::room_for(run) {
         return Listed {
             answer: REFUSED_ROOM,
             len: 0,

@@ -1,14 +1,13 @@
 -- The claims of specs/Claims.antt, proved. Assumes nothing.
 use Prim.Native.Nat.{ℕ, _^_}
-use native.Mathlib.Omega.{arith}
 use mathlib.Core.Path.{_≡_, ap}
-use mathlib.Core.Bool.{true, false}
+use mathlib.Core.Bool.{true}
 use lib.Dec.{eqb}
-use borrow.Author.Tests.{ltb-true, eqb-true, eqb-false, eq-eqb}
+use borrow.Author.Tests.{ltb-true, eqb-true, eq-eqb}
 use Rattle.quorum.specs.Sets.{bit, isIn, isBelow, isMajority, Member}
 use Rattle.quorum.specs.Claims.{Claims}
-use Rattle.quorum.proofs.Laws.{bit-le}
-use Rattle.quorum.proofs.Majorities.{majorities-meet, with-again, with-new, with-other}
+use Rattle.quorum.proofs.Majorities.{majorities-meet, with-again, with-new, absent}
+use Rattle.quorum.proofs.Majorities.{with-other}
 
 meets : (n s t : ℕ) → isBelow s n ≡ true → isBelow t n ≡ true → isMajority n s ≡ true
     → isMajority n t ≡ true
@@ -19,12 +18,6 @@ meets n s t a b p q =
       record { below = m .1; within = eq-eqb _ _ (m .2) },
       record { below = m .1; within = eq-eqb _ _ (m .3) },
     )
-
--- a bit that is not 1 is 0
-absent : (set h : ℕ) → isIn set h ≡ false → bit set h ≡ 0
-absent set h e =
-    let n = eqb-false (bit set h) 1 e in
-    omega (arith, n, bit-le set h)
 
 pub claims : Claims
 claims = record {

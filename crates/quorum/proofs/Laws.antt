@@ -1,5 +1,5 @@
--- Laws of sets of hosts: membership, the set of one host, and the list of a set's hosts. Assumes
--- nothing.
+-- Laws of sets of hosts: membership, the set of one host, what the hosts that a set names tell of
+-- it, and the list of a set's hosts. Assumes nothing.
 use mathlib.Core.Path.{_≡_, refl, sym, ap, _∙_}
 use mathlib.Core.Bool.{Bool, true, false, cond, _||_}
 use mathlib.Core.List.{List, [], _∷_}
@@ -11,10 +11,11 @@ use lib.Count.{ones, onesIn, ones-step}
 use lib.Dec.{lit<, eqb}
 use lib.ListN.{length}
 use lib.Pow.{shl-exact, shl-shr, shr-shr, pow-pos, pow-mono, pow-lt, pow-add}
-use borrow.Author.Tests.{eqb-true}
+use borrow.Author.Tests.{ltb-true, eqb-true, lt-ltb, eq-eqb, ne-eqb}
 use Rattle.base.specs.Lists.{All}
 use Rattle.base.proofs.Tests.{true-false}
-use Rattle.quorum.specs.Sets.{Member, bit, isIn, singleOf, isOnly, membersFrom, members}
+use Rattle.quorum.specs.Sets.{Member, bit, isIn, singleOf, isBelow, isOnly, membersFrom}
+use Rattle.quorum.specs.Sets.{members}
 
 -- a bit of a `u16` by a shift
 pub shifted : (i : ℕ) → i < 16 → (1 * 2 ^ i) % 2 ^ 16 ≡ 2 ^ i
@@ -22,6 +23,9 @@ shifted i h = shl-exact {a = 1} 1 i 16 (lit< tt) (omega arith) ∙ one-mul (2 ^ 
 
 pub bit-le : (s i : ℕ) → bit s i < 2
 bit-le s i = mod-lt (s / 2 ^ i) (lit< tt)
+
+pub bit-next : (s i : ℕ) → bit (s / 2) i ≡ bit s (suc i)
+bit-next s i = ap (λ (x : ℕ). x % 2) (shr-shr s 1 i ∙ ap (λ (k : ℕ). s / 2 ^ k) (omega arith))
 
 -- ---- the set of one host
 
@@ -41,6 +45,72 @@ single-other h i e = go (decLt h i)
         ∙ ap (λ (x : ℕ). x % 2) (shl-shr (2 ^ (j + 1)) i)
         ∙ ap (λ (x : ℕ). x % 2) (pow-add 2 j 1)
         ∙ mul-mod-left (2 ^ j) 2
+
+-- ---- what the hosts that a set names tell of it
+
+-- a set that is not empty names a host; w is at least the set
+some-named : (w set : ℕ) → set ≤ w → 0 < set → (h : ℕ) × (bit set h ≡ 1)
+some-named zero set l p = absurd (omega arith)
+some-named (suc w) set l p =
+    go (set % 2) refl (mod-lt set (lit< tt)) (λ q. some-named w (set / 2) (omega arith) q)
+  where
+    go : (b : ℕ) → set % 2 ≡ b → b < 2 → (0 < set / 2 → (h : ℕ) × (bit (set / 2) h ≡ 1))
+        → (h : ℕ) × (bit set h ≡ 1)
+    go zero e b f =
+        let r = f (omega arith) in
+        (suc (r .0), sym (bit-next set (r .0)) ∙ r .1)
+    go (suc zero) e b f = (0, rw (div-one set) e)
+    go (suc (suc j)) e b f = absurd (omega arith)
+
+pub some-host : (set : ℕ) → 0 < set → (h : ℕ) × (isIn set h ≡ true)
+some-host set p =
+    let r = some-named set set (omega arith) p in
+    (r .0, eq-eqb (bit set (r .0)) 1 (r .1))
+
+-- a set whose hosts are all below n
+bits-below : (n set : ℕ) → ((h : ℕ) → bit set h ≡ 1 → h < n) → set < 2 ^ n
+bits-below zero set f = go (decLt 0 set)
+  where
+    go : Dec (0 < set) → set < 2 ^ 0
+    go (yes p) =
+        let r = some-named set set (omega arith) p in
+        absurd (omega (arith, f (r .0) (r .1)))
+    go (no q) = omega arith
+bits-below (suc n) set f =
+    let r = bits-below n (set / 2) (λ h e. omega (arith, f (suc h) (sym (bit-next set h) ∙ e))) in
+    omega arith
+
+-- a set whose hosts are all h
+bits-single : (h set : ℕ) → 0 < set → ((i : ℕ) → bit set i ≡ 1 → i ≡ h) → set ≡ 2 ^ h
+bits-single zero set p f =
+    let r = bits-below 1 set (λ i e. omega (arith, f i e)) in
+    omega arith
+bits-single (suc h) set p f = go (set % 2) refl (mod-lt set (lit< tt)) (bits-single h (set / 2))
+  where
+    go : (b : ℕ) → set % 2 ≡ b → b < 2
+        → (0 < set / 2 → ((i : ℕ) → bit (set / 2) i ≡ 1 → i ≡ h) → set / 2 ≡ 2 ^ h)
+        → set ≡ 2 ^ suc h
+    go zero e b g =
+        let r = g (omega arith) (λ i q. omega (arith, f (suc i) (sym (bit-next set i) ∙ q))) in
+        omega arith
+    go (suc zero) e b g = absurd (omega (arith, f 0 (rw (div-one set) e)))
+    go (suc (suc j)) e b g = absurd (omega arith)
+
+-- so the tests of a set refuse none that names only hosts below n, and none that names only h
+
+pub named-below : (n set : ℕ) → ((h : ℕ) → isIn set h ≡ true → h < n) → isBelow set n ≡ true
+named-below n set f =
+    lt-ltb set (2 ^ n) (bits-below n set (λ h e. f h (eq-eqb (bit set h) 1 e)))
+
+pub named-only : (set h : ℕ) → ((i : ℕ) → isIn set i ≡ true → i ≡ h) → isOnly set h ≡ true
+named-only set h f = go (decLt 0 set)
+  where
+    go : Dec (0 < set) → isOnly set h ≡ true
+    go (yes p) =
+        let one : set ≡ singleOf h =
+        bits-single h set p (λ i e. f i (eq-eqb (bit set i) 1 e)) in
+        rw (ne-eqb set 0 (λ z. omega arith), eq-eqb set (singleOf h) one)
+    go (no q) = rw (eq-eqb set 0 (omega arith))
 
 -- who is in a set that names no host but one is that one
 pub only-one : (set h i : ℕ) → isOnly set h ≡ true → isIn set i ≡ true → i ≡ h
@@ -87,7 +157,7 @@ members-from n set h (suc k) e = go (isIn set h) refl (members-from n set (suc h
 pub members-all : (n set : ℕ) → All (Member n set) (members n set)
 members-all n set = members-from n set 0 n (omega arith)
 
-ones-zero : ones 0 ≡ 0
+pub ones-zero : ones 0 ≡ 0
 unfolding ones onesIn
 ones-zero = refl
 
@@ -133,6 +203,12 @@ walk-below set h n b e = go (decLt h n)
     go (no q) =
         let m : 2 ^ n ≤ 2 ^ h = pow-mono {i = n} {j = h} (omega arith) in
         absurd (e (div-eq-of-lt {n = set} {m = 2 ^ h} (omega arith)))
+
+-- a host of a set that names none of n or more is below n
+pub below-named : (n set h : ℕ) → isBelow set n ≡ true → isIn set h ≡ true → h < n
+below-named n set h b i =
+    walk-below set h n (ltb-true set (2 ^ n) b)
+    (λ e. let one = eqb-true (bit set h) 1 i in omega (arith, one, e))
 
 -- once nothing is left, no host is
 pub members-none : (set h k : ℕ) → set / 2 ^ h ≡ 0 → membersFrom set h k ≡ []

@@ -1,7 +1,7 @@
 -- Laws of counting: adding a host to a set, a set's size as a sum over the hosts, and that two
 -- majorities share a host, with a weight for each host. Assumes nothing.
 use mathlib.Core.Path.{_≡_, refl, sym, ap, ap₂, _∙_}
-use mathlib.Core.Bool.{true, false}
+use mathlib.Core.Bool.{Bool, true, false}
 use Prim.Native.Nat.{ℕ, zero, suc, _+_, _*_, _/_, _%_, _^_, _<_, max}
 use native.Mathlib.Nat.{one-mul, div-one, add-comm, mod-lt, mod-eq-of-lt, not-suc-le-zero, add-zero}
 use native.Mathlib.Numerals.{one-add}
@@ -10,11 +10,12 @@ use native.Mathlib.Omega.{arith}
 use lib.Arith.{digits-mod}
 use lib.Bits.{bitOr, or-zero-r, or-shr, or-step, or-lt, shifted-half, shifted-even}
 use lib.Count.{ones, onesIn, ones-step, ones-cat}
-use lib.Pow.{shr-shr, pow-pos, pow-lt, mod-pow-add}
-use borrow.Author.Tests.{leb-true, lt-leb}
-use Rattle.quorum.specs.Sets.{bit, singleOf, withHost, everyoneOf, othersOf, sizeOf}
+use lib.Pow.{pow-pos, pow-lt, mod-pow-add}
+use lib.Dec.{eqb}
+use borrow.Author.Tests.{leb-true, lt-leb, eqb-true, eqb-false, eq-eqb, ne-eqb}
+use Rattle.quorum.specs.Sets.{bit, isIn, singleOf, withHost, everyoneOf, othersOf, sizeOf}
 use Rattle.quorum.specs.Sets.{majoritySize, isMajority}
-use Rattle.quorum.proofs.Laws.{bit-le, single-same, single-other}
+use Rattle.quorum.proofs.Laws.{bit-le, bit-next, single-same, single-other}
 
 -- ---- sums by index
 
@@ -131,9 +132,6 @@ or-next s h =
     ∙ ap₂ (λ (x y : ℕ). bitOr (s / 2) x * 2 + max (s % 2) y) half even
     ∙ omega arith
 
-bit-next : (s h : ℕ) → bit (s / 2) h ≡ bit s (suc h)
-bit-next s h = ap (λ (x : ℕ). x % 2) (shr-shr s 1 h ∙ ap (λ (k : ℕ). s / 2 ^ k) (omega arith))
-
 or-again : (s h : ℕ) → bit s h ≡ 1 → bitOr s (2 ^ h) ≡ s
 or-again s zero e = or-first s ∙ omega (arith, rw (div-one s) at e)
 or-again s (suc h) e =
@@ -161,6 +159,25 @@ with-again s h e = or-again s h e
 -- a host that is not in the set makes it larger by one
 pub with-new : (s h : ℕ) → bit s h ≡ 0 → sizeOf (withHost s h) ≡ sizeOf s + 1
 with-new s h e = or-new s h e
+
+-- a bit that is not 1 is 0
+pub absent : (s h : ℕ) → isIn s h ≡ false → bit s h ≡ 0
+absent s h e =
+    let n = eqb-false (bit s h) 1 e in
+    omega (arith, n, bit-le s h)
+
+-- so whether a host is in the set is told by whether the set with it is another
+pub with-tells : (s h : ℕ) → eqb (withHost s h) s ≡ isIn s h
+with-tells s h = go (isIn s h) refl
+  where
+    go : (b : Bool) → isIn s h ≡ b → eqb (withHost s h) s ≡ b
+    go true e = eq-eqb _ _ (with-again s h (eqb-true (bit s h) 1 e))
+    go false e =
+        ne-eqb (withHost s h) s
+        (λ z.
+        let larger = with-new s h (absent s h e) in
+        let same : sizeOf (withHost s h) ≡ sizeOf s = ap ones z in
+        omega (arith, larger, same))
 
 max-lt : (a b : ℕ) → a < 2 → b < 2 → max a b < 2
 max-lt a b p q = omega arith

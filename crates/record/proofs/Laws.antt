@@ -11,12 +11,13 @@ use lib.Dec.{lit<, lit≤, ltb, leb, eqb}
 use borrow.Author.Tests.{ltb-true, ltb-false, leb-true, eqb-true, lt-ltb, le-ltb, le-leb}
 use borrow.Author.Tests.{lt-leb, ne-eqb}
 use Rattle.base.specs.Refusals.{done, refusedCut, refusedKind, refusedLength, refusedShort}
-use Rattle.base.specs.Refusals.{firstOf, testsIn, failsAt}
+use Rattle.base.specs.Refusals.{firstOf, answerBy, testsIn, failsAt}
 use Rattle.base.specs.Lists.{allOf}
 use Rattle.base.proofs.Tests.{true-false, by-test, unless-passed}
 use Rattle.wire.specs.Wire.{numberAt, total, numbersAt}
 use Rattle.wire.proofs.Laws.{number-within, numbers-within}
 use Rattle.layout.specs.Layout.{lengthOffset, kindOffset, foreLength}
+use Rattle.layout.proofs.Laws.{short-refused, long-refused}
 use Rattle.state.specs.declared.Settings.{Settings}
 use Rattle.state.specs.StateLimits.{lastLongest}
 use Rattle.cell.specs.declared.Event.{Event}
@@ -27,8 +28,8 @@ use Rattle.record.specs.declared.Record.{Record}
 use Rattle.record.specs.declared.First.{First}
 use Rattle.record.specs.Record.{settingsKind, advanceAllKind, startKind, kindOf, isAllowed}
 use Rattle.record.specs.Record.{widthsOf, recordLength, leftAt, toldLengthAt, toldKindAt}
-use Rattle.record.specs.Record.{recordFault, faultOffset, headOf, valuesAt, recordWith}
-use Rattle.record.specs.Record.{recordAt, firstWith, firstRecord}
+use Rattle.record.specs.Record.{recordRefusals, recordFault, faultOffset, headOf, valuesAt}
+use Rattle.record.specs.Record.{recordWith, recordAt, firstWith, firstRecord}
 
 -- ---- kinds and lengths
 
@@ -192,25 +193,20 @@ settings-missing s at l n =
 
 -- ---- a length that is not the kind's
 
-pub too-short : (first : Bool) (s : List ℕ) (at : ℕ) → foreLength ≤ leftAt s at
-    → isAllowed first (toldKindAt s at) ≡ true → toldLengthAt s at < recordLength (toldKindAt s at)
-    → recordFault first s at ≡ refusedShort
-unfolding recordFault firstOf allOf
-too-short first s at l k t = rw (le-leb foreLength (leftAt s at) l, k, lt-leb _ _ t)
+-- with 4 bytes and an allowed kind, the length field is looked at next
+module _ (first : Bool) (s : List ℕ) (at : ℕ) (l : foreLength ≤ leftAt s at)
+    (k : isAllowed first (toldKindAt s at) ≡ true) where
+  length-next : recordFault first s at ≡ answerBy (drop 2 (recordRefusals first s at))
+  unfolding recordFault firstOf allOf
+  length-next = rw (le-leb foreLength (leftAt s at) l, k)
 
-pub too-long : (first : Bool) (s : List ℕ) (at : ℕ) → foreLength ≤ leftAt s at
-    → isAllowed first (toldKindAt s at) ≡ true → recordLength (toldKindAt s at) < toldLengthAt s at
-    → recordFault first s at ≡ refusedLength
-unfolding recordFault firstOf allOf
-too-long first s at l k t =
-    let right = recordLength (toldKindAt s at) in
-    let told = toldLengthAt s at in
-    rw (
-      le-leb foreLength (leftAt s at) l,
-      k,
-      le-leb right told (omega (arith, t)),
-      lt-leb told right t,
-    )
+  pub too-short : toldLengthAt s at < recordLength (toldKindAt s at)
+      → recordFault first s at ≡ refusedShort
+  too-short t = length-next ∙ short-refused _ _ (drop 4 (recordRefusals first s at)) t
+
+  pub too-long : recordLength (toldKindAt s at) < toldLengthAt s at
+      → recordFault first s at ≡ refusedLength
+  too-long t = length-next ∙ long-refused _ _ (drop 4 (recordRefusals first s at)) t
 
 -- ---- reading alike
 

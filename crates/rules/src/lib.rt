@@ -178,12 +178,12 @@ fn has_ended(clock: u64, a: Accepted) -> bool
     }
 }
 
-// Whether a reply from this host counts: it was not counted yet.
+// Whether a reply from this host counts: the set with it is another, as it was not counted yet.
 pub fn counts_reply(replied: u16, sender: u8) -> bool
     requires { ⌜ sender < 16 ⌝ }
     ensures { λ r. ⌜ r ≡ countsReply replied sender ⌝ }
 {
-    !quorum::is_in(replied, sender)
+    quorum::with_host(replied, sender) != replied
 }
 
 // The reply with the highest accepted ballot, the earlier one at a tie.

@@ -20,6 +20,7 @@ use Rattle.slots.specs.declared.Content.{Content}
 use Rattle.slots.specs.declared.Slot.{Slot}
 use Rattle.slots.specs.Slots.{slotCount, emptySlot, slotWith, noMessages, isEmpty, contentOk}
 use Rattle.slots.specs.Slots.{slotOk, slotsOk, empties, lowest, placed, placedEach, freed}
+use Rattle.slots.specs.Claims.{Empty, Filled}
 
 -- ---- as many slots
 
@@ -63,11 +64,21 @@ filled-counts (s ∷ ss) (suc i) m h e =
     go true x y q = omega (arith, q)
     go false x y q = q
 
+-- where one is empty, the lowest of them is there, and is empty
+pub lowest-is : (ss : List Slot) → 0 < empties ss → (lowest ss < length ss) × Empty ss (lowest ss)
+unfolding empties lowest
+lowest-is [] h = absurd (omega arith)
+lowest-is (s ∷ ss) h = go (isEmpty (s .content)) refl h (λ l. lowest-is ss l)
+  where
+    go : (b : Bool) → isEmpty (s .content) ≡ b → 0 < cond b (suc (empties ss)) (empties ss)
+        → (0 < empties ss → (lowest ss < length ss) × Empty ss (lowest ss))
+        → (cond b 0 (suc (lowest ss)) < suc (length ss))
+        × Empty (s ∷ ss) (cond b 0 (suc (lowest ss)))
+    go true e l f = (omega arith, e)
+    go false e l f = let p = f l in (omega (arith, p .0), p .1)
+
 -- ---- a slot that holds a message is left alone by placing, to any receivers, and by freeing
 -- another
-
-abbrev pub Filled : List Slot → ℕ → Type 0
-Filled ss j = isEmpty (getD ss j emptySlot .content) ≡ false
 
 -- the lowest empty slot holds no message
 not-lowest : (ss : List Slot) (j : ℕ) → Filled ss j → j ≡ lowest ss → ⊥

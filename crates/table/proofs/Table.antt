@@ -120,6 +120,9 @@ computed = (
   record {
     example-looks = refl;
     last-filled = refl;
+    repeated = refl;
+    released = refl;
+    lone-looks = refl;
     all-looked = refl;
     put-back = refl;
     freed-taken = refl;

@@ -1,5 +1,5 @@
--- The facts that the proof of agreement speaks of, and the invariant. The theorem does not rest on
--- them for what it says: they are what its proof carries from step to step.
+-- The facts that the proof of agreement speaks of, and the invariant. But for `Released` the claims
+-- do not rest on them: they are what the proof carries from step to step.
 --
 -- A disjunction is written as an implication where that is enough: `Joined s x b` says that x has
 -- promised b or higher, or waits until tick b + T, as "if the promise is below b, then ..". That a

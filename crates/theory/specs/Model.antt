@@ -111,6 +111,11 @@ pub data Keeps (now : ℕ) (K A K' : Option Lease) : Type 0 where
   asEmpty : (a : Lease) → A ≡ some a → Expired a now → (K' ≡ K) ⊎ (K' ≡ none) → Higher K none K'
       → Keeps now K A K'
 
+-- the keepers' end of a lease of one's own, for d ticks by the ballot b, when the clock is now: it
+-- is counted from the ballot's tick
+abbrev pub ownEnd : ℕ → ℕ → ℕ → ℕ → ℕ
+ownEnd S now b d = tick b + d + S
+
 -- the owner and the keepers' end that a majority of replies lets p propose
 -- (now: p's clock; ours: the end that p's own lease would have; K: the lease kept of the replies)
 pub data Choice (p now ours : ℕ) (K : Option Lease) : ℕ → ℕ → Type 0 where
@@ -245,7 +250,7 @@ module _ {𝒞 : Setup} where
         Act c v l h (withRound v (asking b d R' K')) none
     propose :
         (b d o e : ℕ) (R R' : Hosts) (K : Option Lease) → v .round ≡ asking b d R K → Majority R
-        → Choice h c (tick b + d + S) K o e →
+        → Choice h c (ownEnd S c b d) K o e →
         ((x : ℕ) → In x R' → ⊥)
         → Act c v l h (withRound v (proposing b o e R')) (some (proposeRequest b o e))
     accept :

@@ -27,7 +27,7 @@ use Rattle.slots.proofs.Walks.{placing-turn}
 use Rattle.slots.proofs.Walks.{Fits, Ends, placing-done, placing-ended, emptied-on, emptied-none}
 use Rattle.cell.specs.declared.Answered.{Answered}
 use Rattle.cell.specs.declared.Cell.{Cell}
-use Rattle.cell.specs.CellLimits.{hostAt, withHost, contentAt, clocksNear}
+use Rattle.cell.specs.CellLimits.{hostAt, withHostAt, contentAt, clocksNear}
 use Rattle.cell.specs.Events.{answeredWith, cellOf, withSlots, advancedAll}
 use Rattle.cell.specs.Claims.{Sized}
 use Rattle.cell.proofs.CellLimits.{n-of}
@@ -254,7 +254,7 @@ done c = c .before .before .before .if5 .left
 
 near : (c : At tie.Joined6) →
     let d = changed (c .before) in
-    clocksNear (withHost (cell d) (who d) (change d .host)) ≡ true
+    clocksNear (withHostAt (cell d) (who d) (change d .host)) ≡ true
 near c =
     let d = changed (c .before) in
     ⊎-elim
@@ -286,7 +286,7 @@ starts c =
 
 -- the cell with the host after the change, and with these slots
 abbrev committed : At tie.After-change-of → List Slot → Cell
-committed c ss = withSlots (withHost (cell c) (who c) (change c .host)) ss
+committed c ss = withSlots (withHostAt (cell c) (who c) (change c .host)) ss
 
 returns-7 : At tie.Need-returns-7
 returns-7 c =

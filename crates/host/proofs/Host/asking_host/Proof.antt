@@ -7,4 +7,4 @@ pub asking-host-spec : {M : Type 1} → statement M
 asking-host-spec =
     tie.close
     (tie.spec (λ c κs. search needs) (λ c κs. search needs)
-    (λ c. rw (c .with-state .ensures, c .before .ballot-at .ensures)))
+    (λ c. rw (c .with-state .ensures, c .before .next-ballot .ensures)))

@@ -25,6 +25,7 @@ on-reply-requires c κs =
       c .before .before .before .before .pre .0,
       record {
         few = omega (arith, q .few);
+        clock = h .clock;
         tick = k .tick;
         duration = omega (arith, k .duration, q .short);
       },

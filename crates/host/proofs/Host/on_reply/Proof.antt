@@ -48,6 +48,7 @@ on-reply-spec =
     let q = c .before .before .before .before .before .pre .1 in
     record {
       few = q .few;
+      clock = q .clock;
       tick = rw (c .asking-after .ensures) (q .tick);
       duration = rw (c .asking-after .ensures) (q .duration);
     })

@@ -12,7 +12,7 @@ returns c =
       c .before .everyone-of .ensures,
       c .before .before .asking-host .ensures,
       c .before .before .before .head-from .ensures,
-      c .before .before .before .before .ballot-at .ensures,
+      c .before .before .before .before .next-ballot .ensures,
     )
 
 pub on-start-spec : {M : Type 1} → statement M
