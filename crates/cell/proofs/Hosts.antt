@@ -1,12 +1,12 @@
 -- The hosts of a cell by their number: one of them replaced, all of them advanced, and their
--- clocks. But for the limits and the proof of `apply_within`, which walk them, proofs above this
--- file speak of hosts by `hostAt` and `withHostAt` alone. Assumes nothing.
+-- clocks. But for the limits, which walk them, the other proofs of this crate speak of hosts by
+-- `hostAt` and `withHostAt` alone. Assumes nothing.
 use mathlib.Core.Path.{_≡_, refl, _∙_}
 use mathlib.Core.Bool.{true}
 use Prim.Native.Nat.{ℕ, _+_, _≤_, _<_}
 use native.Mathlib.Omega.{arith}
 use lib.ListN.{length, length-set}
-use lib.Seq.{getD-set-same, set-getD}
+use lib.Seq.{getD-set-same}
 use Rattle.base.specs.Refusals.{done}
 use Rattle.base.proofs.Lists.{by-place}
 use Rattle.state.specs.StateLimits.{settingsOk}
@@ -38,10 +38,6 @@ module _ (c : Cell) (h : ℕ) (x : Host) where
 
   pub host-other : (k : ℕ) → (k ≡ h → ⊥) → hostAt (withHostAt c h x) k ≡ hostAt c k
   host-other k d = by-host (λ (y : Host). y ≡ hostAt c k) k (λ e. absurd (d e)) refl
-
--- a host that is put back stays
-pub host-keeps : (c : Cell) (h : ℕ) → withHostAt c h (hostAt c h) ≡ c
-host-keeps c h = rw (set-getD (c .hosts) h blankHost)
 
 -- ---- all hosts advanced
 

@@ -2,7 +2,7 @@
 -- anything but 13 refuses it, all where 13 does; and that what a step sends is placed to as many
 -- receivers as 13 counts. Assumes nothing.
 use mathlib.Core.Path.{_≡_, refl, sym, ap, _∙_}
-use mathlib.Core.Bool.{Bool, true, false, cond, _||_, _&&_, not}
+use mathlib.Core.Bool.{Bool, true, false, cond, _&&_, not}
 use mathlib.Core.List.{List, [], _∷_}
 use Prim.Native.Nat.{ℕ, _+_, _^_, _≤_, _<_}
 use native.Mathlib.Omega.{arith}
@@ -12,7 +12,7 @@ use borrow.Author.Tests.{ltb-true, leb-true, leb-false, eqb-true, eqb-false, ne-
 use Rattle.base.specs.Refusals.{done, unless, firstOf, refusedCell, refusedHost, refusedWaiting}
 use Rattle.base.specs.Refusals.{refusedSameTick, refusedDuration, refusedSlot, refusedFull}
 use Rattle.base.specs.Refusals.{refusedSpread, refusedClock, refusedNotHolder}
-use Rattle.base.proofs.Tests.{true-false, both, by-test, first-passed, unless-passed, first-of}
+use Rattle.base.proofs.Tests.{true-false, both, first-passed, unless-passed, first-of}
 use Rattle.base.proofs.Tests.{first-only, none-of, unless-of}
 use Rattle.quorum.specs.Sets.{sizeOf, members, singleOf}
 use Rattle.quorum.proofs.Laws.{members-length, members-single}
@@ -58,23 +58,8 @@ use Rattle.cell.proofs.StaysWithin.{host-passed}
 
 -- ---- how far an event gets
 
--- nothing but 13 refuses it
-abbrev pub Reaches : ℕ → Type 0
-Reaches a = (eqb a done || eqb a refusedFull) ≡ true
-
 count-none : (a k : ℕ) → (a ≡ done → ⊥) → (a ≡ refusedFull → ⊥) → countWith a k ≡ 0
 count-none a k n f = rw (ne-eqb a done n, ne-eqb a refusedFull f)
-
-pub count-zero : (a : ℕ) → countWith a 0 ≡ 0
-count-zero a =
-    by-test (λ (x : ℕ). x ≡ 0) (eqb a done || eqb a refusedFull) 0 0 (λ _. refl) (λ _. refl)
-
-pub count-same : (a x y : ℕ) → (Reaches a → x ≡ y) → countWith a x ≡ countWith a y
-count-same a x y f = go (eqb a done || eqb a refusedFull) f
-  where
-    go : (b : Bool) → (b ≡ true → x ≡ y) → cond b x 0 ≡ cond b y 0
-    go true g = g refl
-    go false g = refl
 
 -- ---- what a step sends has as many receivers as 13 counts
 
@@ -198,19 +183,14 @@ full-past : (k : ℕ) (ks : List ℕ) → NotFull k → firstOf (k ∷ ks) ≡ r
     → firstOf ks ≡ refusedFull
 full-past k ks n e = past (λ (r : ℕ). r ≡ refusedFull) k ks (λ _. n) e .1
 
-pub reaches-past : (k : ℕ) (ks : List ℕ) → NotFull k → Reaches (firstOf (k ∷ ks))
-    → (k ≡ done) × Reaches (firstOf ks)
-reaches-past k ks n =
-    past Reaches k ks (λ z r. true-false (sym r ∙ rw (ne-eqb k done z, ne-eqb k refusedFull n)))
-
 not-full : (b : Bool) (k : ℕ) → eqb k refusedFull ≡ false → NotFull (unless b k)
 not-full b k n =
     unless-of NotFull b k (λ e. absurd (omega (arith, e))) (eqb-false k refusedFull n)
 
-none-full : NotFull (firstOf [])
+pub none-full : NotFull (firstOf [])
 none-full = none-of NotFull (λ e. absurd (omega (arith, e)))
 
-then-full : (b : Bool) (k : ℕ) (ks : List ℕ) → eqb k refusedFull ≡ false → NotFull (firstOf ks)
+pub then-full : (b : Bool) (k : ℕ) (ks : List ℕ) → eqb k refusedFull ≡ false → NotFull (firstOf ks)
     → NotFull (firstOf (unless b k ∷ ks))
 then-full b k ks n f = first-of NotFull (unless b k) ks (not-full b k n) (λ _. f)
 
@@ -239,7 +219,7 @@ advance-not-full s h d =
     (then-full (not (eqb d 0)) refusedClock _ refl
     (then-full (leb (h .clock + d) lastTick) refusedClock [] refl none-full))
 
-restart-not-full : (s : Settings) (h : Host) → NotFull (restartRefusal s h)
+pub restart-not-full : (s : Settings) (h : Host) → NotFull (restartRefusal s h)
 unfolding restartRefusal
 restart-not-full s h = then-full (hostOk s h) refusedCell [] refl none-full
 

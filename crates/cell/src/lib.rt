@@ -1,6 +1,6 @@
 // The cell as a value: nine places for hosts, and the messages under way in 96 slots. Its limits,
 // and opening; what each event does to it is defined here (specs/Events.antt), and carried out by
-// the crate `event`.
+// the loop of the crate `run`.
 ghost use mathlib.Core.Path.{_≡_};
 ghost use Rattle.places.specs.Parts.{Opens};
 ghost use Rattle.cell.specs.CellLimits.{cellOk};

@@ -1,6 +1,7 @@
--- How long the parts of a listing's lines are at most, and the walk over names. Assumes nothing.
-use mathlib.Core.Path.{_≡_}
-use mathlib.Core.List.{List, [], _∷_, _++_}
+-- How long the parts of a listing's lines are at most, the walk over names, and lines after lines.
+-- Assumes nothing.
+use mathlib.Core.Path.{_≡_, refl, sym, ap, _∙_}
+use mathlib.Core.List.{List, [], _∷_, _++_, append-assoc}
 use Prim.Native.Nat.{ℕ, suc, _+_, _-_, _^_, _≤_, _<_}
 use native.Mathlib.Omega.{arith}
 use native.Mathlib.Nat.{lt-of-lt-of-le}
@@ -11,7 +12,7 @@ use Rattle.text.specs.Text.{decimal}
 use Rattle.text.proofs.Laws.{decimal-most}
 use Rattle.host.specs.declared.Host.{Host}
 use Rattle.places.specs.Places.{blankHost}
-use Rattle.lines.specs.Lines.{lastOf, nameText, namesFrom, namesText}
+use Rattle.lines.specs.Lines.{Line, lastOf, nameText, namesFrom, namesText, lineText, textOf}
 
 -- ---- how long numbers are
 
@@ -49,3 +50,12 @@ unfolding namesFrom namesText
 names-end hs n i h =
     let e : n - i ≡ 0 = omega arith in
     rw e
+
+-- ---- lines
+
+pub text-then : (ls ms : List Line) → textOf (ls ++ ms) ≡ textOf ls ++ textOf ms
+unfolding textOf
+text-then [] ms = refl
+text-then (l ∷ ls) ms =
+    ap (λ (bytes : List ℕ). lineText l ++ bytes) (text-then ls ms)
+    ∙ sym (append-assoc (lineText l) (textOf ls) (textOf ms))

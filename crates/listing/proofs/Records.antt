@@ -47,6 +47,13 @@ one-more (suc k) s at h = go (recordAt s at) refl (one-more k s)
     go (Record.Fault n o) e f = refl
     go (Record.Event x next) e f = ap (then x) (f next (omega (arith, record-next s at x next e)))
 
+-- what stands at an offset is the first of what is left
+pub script-next : (s : List ℕ) (at : ℕ)
+    → scriptFrom (length s) s at
+    ≡ scriptWith at (recordAt s at) (λ next. scriptFrom (length s) s next)
+unfolding scriptFrom
+script-next s at = sym (one-more (length s) s at (omega arith))
+
 enough : (j k : ℕ) (s : List ℕ) (at : ℕ) → length s ≤ at + k
     → scriptFrom (j + k) s at ≡ scriptFrom k s at
 enough zero k s at h = let e : 0 + k ≡ k = omega arith in rw e

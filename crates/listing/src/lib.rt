@@ -1,24 +1,30 @@
 // What the listing of a run file is, and the parts of it that need no cell: the room for it, how
-// far the walk has come, how a listing ends, and that of a file that is too long. The crate
-// `player` writes the rest.
+// far the walk has come, how a line begins and how a listing ends, and that of a file that is too
+// long. The crate `player` writes the rest.
 ghost use mathlib.Core.Path.{_≡_};
 ghost use Prim.Native.Nat.{_+_, _≤_, _<_};
 ghost use lib.Dec.{ltb};
 ghost use lib.ListN.{length};
 ghost use Rattle.text.specs.Parts.{Put};
 ghost use Rattle.base.specs.Refusals.{refusedLong};
-ghost use Rattle.lines.specs.Lines.{stop, lineText, textOf};
+ghost use Rattle.record.specs.Record.{kindOf};
+ghost use Rattle.lines.specs.Lines.{stop, eventHead, lineText, textOf};
 ghost use Rattle.listing.specs.Listing.{longestRun, longRoom, roomFor};
-ghost use Rattle.listing.specs.Parts.{doneOf, lastLines, walkedTo};
+ghost use Rattle.listing.specs.Parts.{doneOf, lastLines, walkFrom, walkedTo};
 use base::DONE;
+use cell::Event;
 use record::Record;
+use record::SETTINGS_LENGTH;
 
-// How far the walk of a run file has come, where its listing goes on, and its counts so far.
+// How far the walk of a run file has come, where its listing goes on, its counts so far, and what
+// the last event was answered, with how many slots it looked at.
 pub struct Walk {
     pub at: usize,
     pub pos: usize,
     pub applied: u64,
     pub refused: u64,
+    pub answer: u8,
+    pub looked: usize,
 }
 
 // The answer's number, and how many bytes were written.
@@ -68,10 +74,24 @@ fn done_of(answer: u8) -> u64
     if answer == DONE { 1 } else { 0 }
 }
 
+// The walk before its first event, whose line comes at an offset.
+pub fn walk_from(pos: usize) -> Walk
+    ensures { λ r. ⌜ r ≡ walkFrom pos ⌝ }
+{
+    Walk {
+        at: SETTINGS_LENGTH,
+        pos,
+        applied: 0,
+        refused: 0,
+        answer: DONE,
+        looked: 0,
+    }
+}
+
 // The walk past an event: its line is written, and its answer counted.
-pub fn walked(w: Walk, answer: u8, next: usize, pos: usize) -> Walk
+pub fn walked(w: Walk, answer: u8, looked: usize, next: usize, pos: usize) -> Walk
     requires { ⌜ w .applied + w .refused + 1 < 100000 ⌝ }
-    ensures { λ r. ⌜ r ≡ walkedTo w answer next pos ⌝ }
+    ensures { λ r. ⌜ r ≡ walkedTo w answer looked next pos ⌝ }
 {
     let done = done_of(answer);
     Walk {
@@ -79,7 +99,20 @@ pub fn walked(w: Walk, answer: u8, next: usize, pos: usize) -> Walk
         pos,
         applied: w.applied + done,
         refused: w.refused + (1 - done),
+        answer,
+        looked,
     }
+}
+
+// An event's place from 1, its kind and its answer, with which its line begins.
+pub fn put_head(out: &mut [u8], w: Walk, e: Event, answer: u8) -> usize
+    requires { ⌜ (w .applied + w .refused + 1 < 100000) × (w .pos + 13 ≤ length (now out)) ⌝ }
+    ensures { λ r. ⌜ Put (now (out .entry)) (w .pos)
+        (eventHead (w .applied + w .refused + 1) (kindOf e) answer) r (now (out .exit))
+        × (r ≤ w .pos + 13) ⌝ }
+{
+    let place = w.applied + w.refused + 1;
+    lines::put_event_head(out, w.pos, place, record::kind_of(e), answer)
 }
 
 // The fault's line, if there is one, and the counts.

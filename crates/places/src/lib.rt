@@ -98,9 +98,11 @@ pub fn clock_with(i: usize, host: usize, moved: u64, clock: u64) -> u64
 
 // Whether the latest clock is at most S past the earliest.
 pub fn spread_ok(s: Settings, low: u64, high: u64) -> bool
-    requires { ⌜ low ≤ high ⌝ }
     ensures { λ r. ⌜ r ≡ leb (high - low) (s .spread) ⌝ }
 {
+    if high <= low {
+        return true;
+    }
     high - low <= s.spread as u64
 }
 

@@ -1,8 +1,9 @@
 // How many hosts a cell may have, and sets of them: a u16 with one bit a host.
 ghost use mathlib.Core.Path.{_≡_};
-ghost use Prim.Native.Nat.{_<_};
+ghost use Prim.Native.Nat.{_<_, _≤_};
 ghost use Rattle.quorum.specs.Sets.{cellFits, isIn, singleOf, withHost, everyoneOf, othersOf};
 ghost use Rattle.quorum.specs.Sets.{isBelow, isOnly, sizeOf, isMajority};
+ghost use Rattle.quorum.specs.Parts.{nextIn};
 
 // The most hosts that a cell may have.
 pub const MOST_HOSTS: u8 = 9;
@@ -75,6 +76,21 @@ pub fn is_only(set: u16, host: u8) -> bool
         return false;
     }
     set == single_of(host)
+}
+
+// The first host from one on that is in a set; n where none below n is.
+pub fn next_in(set: u16, from: u8, n: u8) -> u8
+    requires { ⌜ (from ≤ n) × (n < 16) ⌝ }
+    ensures { λ r. ⌜ r ≡ nextIn set from n ⌝ }
+{
+    let mut h = from;
+    while h < n {
+        if is_in(set, h) {
+            return h;
+        }
+        h += 1;
+    }
+    h
 }
 
 // How many hosts are in a set.

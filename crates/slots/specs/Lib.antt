@@ -1,4 +1,3 @@
--- The messages under way; Parts needs no belief.
+-- The messages under way; Claims says what is proved of the walk that places.
 pub mod Slots
 pub mod Claims
-pub mod Parts

@@ -1,10 +1,7 @@
-// The messages under way: 96 slots, each empty or holding one message. Whether they are within
-// their limits, what an event leaves of the slot that it is about, and a turn of the walk that
-// places a message to a set of receivers.
+// The messages under way: 96 slots, each empty or holding one message, and whether they are within
+// their limits.
 ghost use mathlib.Core.Path.{_≡_};
-ghost use Prim.Native.Nat.{_<_};
 ghost use Rattle.slots.specs.Slots.{isEmpty, contentOk, slotsOk, noMessages};
-ghost use Rattle.slots.specs.Parts.{slotAfter, passedOver, turnOf};
 use base::DONE;
 use message::Message;
 use message::Sizes;
@@ -21,15 +18,6 @@ pub enum Content {
 // One of the places for a message under way.
 pub struct Slot {
     pub content: Content,
-}
-
-// What a turn of the walk that places leaves: what its slot holds, whose turn it is next and which
-// slot's, and 1 where it filled the slot, else 0.
-pub struct Turn {
-    pub slot: Slot,
-    pub host: u8,
-    pub at: usize,
-    pub fills: usize,
 }
 
 // Whether a slot holds nothing.
@@ -76,52 +64,4 @@ pub fn slots_ok(z: Sizes, slots: [Slot; 96]) -> bool
         i += 1;
     }
     true
-}
-
-// A slot that an event frees, or leaves as it is.
-pub fn slot_after(frees: bool, held: Slot) -> Slot
-    ensures { λ r. ⌜ r ≡ slotAfter frees held ⌝ }
-{
-    if frees {
-        return Slot {
-            content: Content::Empty,
-        };
-    }
-    held
-}
-
-// A turn that leaves its slot as it is.
-fn passed_over(held: Slot, host: u8, at: usize) -> Turn
-    ensures { λ r. ⌜ r ≡ passedOver held host at ⌝ }
-{
-    Turn {
-        slot: held,
-        host,
-        at,
-        fills: 0,
-    }
-}
-
-// The walk that places, at host h and slot j: a host that is no receiver is passed over, and so is
-// a slot that is taken. From a slot that is filled it goes on to the next.
-pub fn turn_of(m: Message, receivers: u16, h: u8, j: usize, held: Slot) -> Turn
-    requires { ⌜ (h < 16) × (j < 96) ⌝ }
-    ensures { λ r. ⌜ r ≡ turnOf m receivers h j held ⌝ }
-{
-    if !quorum::is_in(receivers, h) {
-        return passed_over(held, h + 1, j);
-    }
-    let content = held.content;
-    if !is_empty(content) {
-        return passed_over(held, h, j + 1);
-    }
-    let addressed = message::addressed_to(m, h);
-    Turn {
-        slot: Slot {
-            content: Content::One(addressed),
-        },
-        host: h + 1,
-        at: j + 1,
-        fills: 1,
-    }
 }

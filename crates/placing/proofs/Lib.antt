@@ -1,0 +1,2 @@
+-- Laws of marks and of the walk over them.
+pub mod Laws

@@ -1,0 +1,2 @@
+-- The walk that places, over marks. Needs no belief.
+pub mod Parts

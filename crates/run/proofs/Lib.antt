@@ -1,0 +1,3 @@
+-- Laws of a run of events.
+pub mod Playing
+pub mod Acting

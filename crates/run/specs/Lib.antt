@@ -1,0 +1,2 @@
+-- What a run of events leaves. Needs no belief.
+pub mod Parts
