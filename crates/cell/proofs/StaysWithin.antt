@@ -143,7 +143,7 @@ host-kept c h x o b e f near =
     )
 
 -- one host replaced by one with the same clock
-pub still-near : (c : Cell) (h : ℕ) (x : Host) → CellIn c → x .clock ≡ hostAt c h .clock → (j k : ℕ)
+still-near : (c : Cell) (h : ℕ) (x : Host) → CellIn c → x .clock ≡ hostAt c h .clock → (j k : ℕ)
     → j < c .settings .n → k < c .settings .n
     → hostAt (withHostAt c h x) j .clock ≤ hostAt (withHostAt c h x) k .clock + c .settings .spread
 still-near c h x i t j k p q = rw (same j, same k) (i .near j k p q)

@@ -34,8 +34,7 @@ pub enum Event {
 }
 
 // What opening or an event gives, and the next event is handed: the answer's number, how many slots
-// were looked at to place what was sent, and the cell, side by side, so that the cell can be
-// changed in place.
+// were looked at to place what was sent, and the cell, side by side.
 pub struct Answered {
     pub answer: u8,
     pub looked: usize,

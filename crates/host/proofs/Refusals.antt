@@ -104,17 +104,10 @@ message-in s h m e =
     let p1 = unless-passed (hostOk s h) refusedCell _ refl e in
     (host-in s h (p1 .0), first-passed (faultOf (sizesOf s) (numbersOf m)) _ (p1 .1) .0)
 
--- a host within its limits refuses no restart, and no message in which writing refuses nothing and
--- that is for it
+-- a host within its limits refuses no restart
 pub restart-passed : (s : Settings) (h : Host) → hostOk s h ≡ true → restartRefusal s h ≡ done
 unfolding restartRefusal firstOf
 restart-passed s h e = rw e
-
-pub message-passed : (s : Settings) (h : Host) (m : Message) → hostOk s h ≡ true
-    → faultOf (sizesOf s) (numbersOf m) ≡ done → numbersOf m .target ≡ h .number
-    → receiveRefusal s h m ≡ done
-unfolding receiveRefusal firstOf
-message-passed s h m e f g = rw (e, f, eq-eqb (numbersOf m .target) (h .number) g)
 
 -- ---- a reply of a host that was counted changes nothing
 

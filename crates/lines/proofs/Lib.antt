@@ -1,2 +1,3 @@
--- Laws of a listing's lines: how long their parts are, and the walk over names.
+-- Laws of a listing's lines: how long their parts are, the walk over names, and lines
+-- after lines.
 pub mod Laws

@@ -1,4 +1,4 @@
--- Laws of the listing: its script, its lines with counts so far, and how it ends.
+-- Laws of the listing: its script, its counts, and how it ends.
 pub mod Counting
 pub mod Ending
 pub mod Records

@@ -1,4 +1,4 @@
--- Laws of the nine places for hosts: their limits, the walks over them, and what opening sets.
+-- Laws of the nine places for hosts: their limits, the walk over clocks, and what opening sets.
 pub mod PlaceLimits
 pub mod Each
 pub mod Walks

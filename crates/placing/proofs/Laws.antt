@@ -2,6 +2,7 @@
 -- Assumes nothing.
 use mathlib.Core.Path.{_≡_, refl, sym, ap, _∙_}
 use mathlib.Core.Bool.{Bool, true, false, cond, _&&_, not}
+use mathlib.Core.Logic.{⊎-elim}
 use mathlib.Core.List.{List, _∷_}
 use Prim.Native.Nat.{ℕ, zero, suc, _+_, _-_, _≤_, _<_}
 use native.Mathlib.Decide.{ℕ-discrete}
@@ -20,8 +21,9 @@ use Rattle.message.specs.Message.{addressedTo}
 use Rattle.slots.specs.declared.Slot.{Slot}
 use Rattle.slots.specs.Slots.{slotCount, emptySlot, slotWith, isEmpty, placedEach, lookedFor, freed}
 use Rattle.slots.proofs.Walks.{Placing, placing-first, placing-past, placing-fill, placing-ended}
-use Rattle.placing.specs.Parts.{Marks, freedIn, markedFree, takenFrom, eightTaken, NextEmpty}
-use Rattle.placing.specs.Parts.{stored, Fills, Lacks, Nines}
+use Rattle.placing.specs.declared.Placed.{Placed}
+use Rattle.placing.specs.Parts.{Marks, freedIn, markedFree, takenFrom, eightTaken, Passed}
+use Rattle.placing.specs.Parts.{NextEmpty, stored, Fills, Lacks, Nines, Outcome}
 
 -- ---- marks
 
@@ -52,20 +54,20 @@ marks-set {ss = ss} {marks = marks} i x s p l e =
           (λ q. rw (getD-set-other ss i j s emptySlot q) (p .empty j u));
     }
 
+-- one that is freed
+pub marks-free : {ss : List Slot} {marks : List ℕ} (i : ℕ) → Marks ss marks → i < slotCount
+    → Marks (freed ss i) (set marks i 0)
+unfolding isEmpty
+marks-free i p l = marks-set i 0 emptySlot p l refl
+
 -- an event's slot, freed or not
 pub marks-freed : (frees : Bool) {ss : List Slot} {marks : List ℕ} (i : ℕ) → Marks ss marks
     → i < slotCount → Marks (cond frees (freed ss i) ss) (markedFree (freedIn frees i) marks)
-unfolding freedIn isEmpty
-marks-freed true i p l = marks-set i 0 emptySlot p l refl
+unfolding freedIn
+marks-freed true i p l = marks-free i p l
 marks-freed false {marks = marks} i p l = rw (set-out marks slotCount 0 (omega (arith, p .many))) p
 
 -- ---- the next empty slot
-
--- the slots from one on up to another are taken
-pub record Passed (marks : List ℕ) (from j : ℕ) : Type 0 where
-  pub least : from ≤ j
-  pub most : j ≤ slotCount
-  pub taken : (x : ℕ) → from ≤ x → x < j → eqb (getD marks x 0) 0 ≡ false
 
 pub passed-first : (marks : List ℕ) (from : ℕ) → from ≤ slotCount → Passed marks from from
 passed-first marks from l =
@@ -87,7 +89,7 @@ module _ {marks : List ℕ} {from j : ℕ} (p : Passed marks from j) where
 
   -- where it stops
   pub passed-to : (j < slotCount → eqb (getD marks j 0) 0 ≡ true) → NextEmpty marks from j
-  passed-to e = record { least = p .least; most = p .most; taken = p .taken; empty = e }
+  passed-to e = record { passed = p; empty = e }
 
 passed-more : {marks : List ℕ} {from j : ℕ} (k : ℕ) → Passed marks from j → j + k ≤ slotCount
     → takenFrom k marks j ≡ true → Passed marks from (j + k)
@@ -137,9 +139,12 @@ module _ {marks : List ℕ} {from at : ℕ} (freed : ℕ) (long : length marks �
       let a = leb-true from freed (t .0) in
       let b = ltb-true freed at (t .1) in
       record {
-        least = a;
-        most = omega (arith, q .most);
-        taken = λ x u v. rw (stays x (λ z. omega arith)) (q .taken x u (omega arith));
+        passed =
+            record {
+              least = a;
+              most = omega (arith, q .passed .most);
+              taken = λ x u v. rw (stays x (λ z. omega arith)) (q .passed .taken x u (omega arith));
+            };
         empty = λ l. goes freed l refl;
       }
 
@@ -148,14 +153,17 @@ module _ {marks : List ℕ} {from at : ℕ} (freed : ℕ) (long : length marks �
       → NextEmpty (markedFree freed marks) from at
   freed-later e =
       record {
-        least = q .least;
-        most = q .most;
-        taken = λ x u v.
-            rw (stays x (λ z.
-            true-false
-            (sym
-            (and-true (leb from freed) (ltb freed at) (le-leb from freed (omega arith))
-            (lt-ltb freed at (omega arith))) ∙ e))) (q .taken x u v);
+        passed =
+            record {
+              least = q .passed .least;
+              most = q .passed .most;
+              taken = λ x u v.
+                  rw (stays x (λ z.
+                  true-false
+                  (sym
+                  (and-true (leb from freed) (ltb freed at) (le-leb from freed (omega arith))
+                  (lt-ltb freed at (omega arith))) ∙ e))) (q .passed .taken x u v);
+            };
         empty = λ l. go l (ℕ-discrete at freed);
       }
     where
@@ -290,12 +298,12 @@ module _ {marks : List ℕ} {receivers n : ℕ} {filled to : List ℕ} {h j k : 
         → Placing m ss (stored k filled to m ss) (members n receivers)
         (h ∷ membersFrom receivers (h + 1) (n - (h + 1))) at k
     reached ss m p =
-        let z : j + (at - j) ≡ at = omega (arith, q .least) in
+        let z : j + (at - j) ≡ at = omega (arith, q .passed .least) in
         rw z at
-        (placing-past (at - j) j (omega (arith, q .least, q .most))
+        (placing-past (at - j) j (omega (arith, q .passed .least, q .passed .most))
         (λ x u v.
-        told-by ss m p x false u (omega (arith, q .least, q .most))
-        (q .taken x u (omega (arith, q .least))))
+        told-by ss m p x false u (omega (arith, q .passed .least, q .passed .most))
+        (q .passed .taken x u (omega (arith, q .passed .least))))
         (rw (members-step receivers h n b, w .member b) at (w .placing ss m p)))
 
     -- the slot that was found is remembered, and the walk goes on from there
@@ -315,7 +323,8 @@ module _ {marks : List ℕ} {receivers n : ℕ} {filled to : List ℕ} {h j k : 
           places = omega arith;
           placing = λ ss m p.
               rw (stored-next k at h filled to m ss f t, ← x .rest)
-              (placing-fill (reached ss m p) l (told-by ss m p at true (q .least) l (q .empty l)));
+              (placing-fill (reached ss m p) l
+              (told-by ss m p at true (q .passed .least) l (q .empty l)));
         }
       where
         go : (y : ℕ) → y < k + 1 → Dec (y ≡ k) → k < length filled
@@ -323,7 +332,7 @@ module _ {marks : List ℕ} {receivers n : ℕ} {filled to : List ℕ} {h j k : 
         go y d (yes e) f = rw (e, getD-set-same filled k at 0 f) (omega arith)
         go y d (no e) f =
             rw (getD-set-other filled k y at 0 e)
-            (omega (arith, w .below y (omega (arith, d, e)), q .least))
+            (omega (arith, w .below y (omega (arith, d, e)), q .passed .least))
 
     -- a receiver is left, and no slot is empty
     pub walking-ended : slotCount ≤ at → Lacks marks receivers n
@@ -332,3 +341,16 @@ module _ {marks : List ℕ} {receivers n : ℕ} {filled to : List ℕ} {h j k : 
           looked-is = λ ss p. placing-ended (reached ss any p) l .0;
           too-few = λ ss p. placing-ended (reached ss any p) l .1;
         }
+
+-- ---- what is to be filled, with room and without
+
+module _ (answer : ℕ) (marks : List ℕ) (receivers n : ℕ) (filled to : List ℕ) (r : Placed)
+    (w : Outcome answer marks receivers n filled to r)
+  where
+    pub count-few : r .count ≤ n
+    unfolding Outcome
+    count-few = ⊎-elim (λ x. x .1 .few) (λ x. omega (arith, x .1 .0)) w
+
+    pub filled-few : (x : ℕ) → x < r .count → getD filled x 0 < slotCount
+    unfolding Outcome
+    filled-few x b = ⊎-elim (λ y. y .1 .within x b) (λ y. absurd (omega (arith, b, y .1 .0))) w

@@ -42,11 +42,15 @@ takenFrom (suc k) marks j = takenFrom k marks j && not (eqb (getD marks (j + k) 
 unfoldable pub eightTaken : List ℕ → ℕ → Bool
 eightTaken marks j = leb (j + 8) slotCount && takenFrom 8 marks j
 
--- the slots from one on up to another are taken, and that one is empty or past the last
-pub record NextEmpty (marks : List ℕ) (from r : ℕ) : Type 0 where
+-- the slots from one on up to another are taken
+pub record Passed (marks : List ℕ) (from r : ℕ) : Type 0 where
   pub least : from ≤ r
   pub most : r ≤ slotCount
   pub taken : (x : ℕ) → from ≤ x → x < r → eqb (getD marks x 0) 0 ≡ false
+
+-- and that one is empty, or past the last
+pub record NextEmpty (marks : List ℕ) (from r : ℕ) : Type 0 where
+  pub passed : Passed marks from r
   pub empty : r < slotCount → eqb (getD marks r 0) 0 ≡ true
 
 -- the first k of these slots filled, each with the message to the receiver beside it

@@ -5,7 +5,7 @@ ghost use Prim.Native.Nat.{_<_, _≤_};
 ghost use lib.Dec.{eqb};
 ghost use lib.ListN.{length};
 ghost use Rattle.slots.specs.Slots.{isEmpty};
-ghost use Rattle.placing.specs.Parts.{Marks, NextEmpty, Walks, Outcome, Nines};
+ghost use Rattle.placing.specs.Parts.{Marks, Passed, NextEmpty, Walks, Outcome, Nines};
 ghost use Rattle.placing.specs.Parts.{eightTaken, freedIn, markedFree};
 use base::REFUSED_FULL;
 use slots::Content;
@@ -71,16 +71,24 @@ fn eight_taken(marks: &[u8; 96], j: usize) -> bool
         & (marks[j + 7] != 0)
 }
 
-// The first slot from one on that is empty; 96 where none is. Taken slots are passed over eight at
-// a time.
-fn next_empty(marks: &[u8; 96], from: usize) -> usize
+// From one slot on past those that are taken, eight at a time.
+fn past_eights(marks: &[u8; 96], from: usize) -> usize
     requires { ⌜ (from ≤ 96) × (length (now marks) ≡ 96) ⌝ }
-    ensures { λ r. ⌜ NextEmpty (now (marks .entry)) from r ⌝ }
+    ensures { λ r. ⌜ Passed (now (marks .entry)) from r ⌝ }
 {
     let mut j = from;
     while eight_taken(marks, j) {
         j += 8;
     }
+    j
+}
+
+// The first slot from one on that is empty; 96 where none is.
+fn next_empty(marks: &[u8; 96], from: usize) -> usize
+    requires { ⌜ (from ≤ 96) × (length (now marks) ≡ 96) ⌝ }
+    ensures { λ r. ⌜ NextEmpty (now (marks .entry)) from r ⌝ }
+{
+    let mut j = past_eights(marks, from);
     while j < SLOTS {
         if marks[j] == 0 {
             return j;
@@ -88,16 +96,6 @@ fn next_empty(marks: &[u8; 96], from: usize) -> usize
         j += 1;
     }
     j
-}
-
-// The slot that an event frees, for the walk; 96, which is none, where it frees none.
-fn freed_in(frees: bool, i: usize) -> usize
-    ensures { λ r. ⌜ r ≡ freedIn frees i ⌝ }
-{
-    if frees {
-        return i;
-    }
-    SLOTS
 }
 
 // The same where one slot is freed: that one, where the walk meets it before an empty one.
@@ -110,6 +108,16 @@ fn next_free(marks: &[u8; 96], freed: usize, from: usize) -> usize
         return freed;
     }
     at
+}
+
+// The slot that an event frees, for the walk; 96, which is none, where it frees none.
+fn freed_in(frees: bool, i: usize) -> usize
+    ensures { λ r. ⌜ r ≡ freedIn frees i ⌝ }
+{
+    if frees {
+        return i;
+    }
+    SLOTS
 }
 
 // For each receiver the lowest empty slot: one walk, which goes on from the slot just found.
@@ -151,8 +159,8 @@ fn walk(
     }
 }
 
-// Where an event goes by what it sends: a slot that it frees is empty for the walk. Without room it
-// is 13.
+// Where what an event sends is to go, and its answer then: that of before, or 13 without room. A
+// slot that the event frees is empty for the walk.
 pub fn place(
     answer: u8,
     marks: &[u8; 96],

@@ -1,23 +1,20 @@
 -- The event that comes of what was found of it, once what it sends has its slots or there is no
 -- room for it. Assumes nothing.
 use mathlib.Core.Path.{_≡_, refl, sym, ap, _∙_}
-use mathlib.Core.Bool.{Bool, true, false, cond, _&&_}
+use mathlib.Core.Bool.{cond}
 use mathlib.Core.Logic.{⊎-elim}
 use mathlib.Core.List.{List, []}
-use Prim.Native.Nat.{ℕ, _≤_, _<_}
+use Prim.Native.Nat.{ℕ, _<_}
 use native.Mathlib.Omega.{arith}
-use native.Mathlib.Decide.{ℕ-discrete}
-use lib.Dec.{eqb}
-use lib.ListN.{length, getD, set}
+use lib.ListN.{length}
 use Rattle.base.specs.Refusals.{done, refusedFull}
-use Rattle.base.proofs.Tests.{true-false}
 use Rattle.quorum.specs.Sets.{members}
 use Rattle.quorum.proofs.Laws.{members-none}
 use Rattle.host.specs.declared.Host.{Host}
 use Rattle.host.specs.declared.Sent.{Sent}
 use Rattle.message.specs.declared.Message.{Message}
 use Rattle.slots.specs.declared.Slot.{Slot}
-use Rattle.slots.specs.Slots.{slotCount, emptySlot, isEmpty, empties, lookedFor, freed}
+use Rattle.slots.specs.Slots.{slotCount, lookedFor, freed}
 use Rattle.cell.specs.declared.Cell.{Cell}
 use Rattle.cell.specs.declared.Event.{Event}
 use Rattle.cell.specs.Events.{answeredWith, messagesIn, sentTo, eventOf}
@@ -27,7 +24,7 @@ use Rattle.acts.specs.Parts.{freesIn, movedHosts, hostsWith, slotsWith}
 use Rattle.acts.proofs.Acts.{Acts}
 use Rattle.placing.specs.declared.Placed.{Placed}
 use Rattle.placing.specs.Parts.{Marks, freedIn, markedFree, stored, Fills, Lacks, Outcome}
-use Rattle.placing.proofs.Laws.{marks-set, marks-freed}
+use Rattle.placing.proofs.Laws.{marks-freed}
 use Rattle.run.proofs.Playing.{cellWith}
 
 -- what is sent, stored into the slots that were found for it
@@ -64,17 +61,6 @@ module _ {c : Cell} {e : Event} {found : Found} {who i : ℕ} {after : Host}
     freed-marks : found .answer ≡ done → Marks (slotsWith e (found .answer) i (c .slots)) start
     freed-marks d = rw d (marks-freed (freesIn e) i m l)
 
-    sends : (x : Message) → found .sent ≡ Sent.One x → found .answer ≡ done
-    sends x q = go (ℕ-discrete (found .answer) done)
-      where
-        isNothing : Sent → Bool
-        isNothing Sent.Nothing = true
-        isNothing (Sent.One y) = false
-
-        go : Dec (found .answer ≡ done) → found .answer ≡ done
-        go (yes d) = d
-        go (no d) = true-false (ap isNothing (sym (a .willing d) ∙ q))
-
     -- with room
     fitting : (count looked : ℕ) → Fills start (found .receivers) n filled to count looked
         → (sent : Sent) → found .sent ≡ sent → Committed (found .answer) looked count sent
@@ -86,7 +72,7 @@ module _ {c : Cell} {e : Event} {found : Found} {who i : ℕ} {after : Host}
         ∙ ap (λ (k : ℕ). lookedFor k ss) (no-members n (found .receivers) (a .none q)) in
         rw none (rw q at (a .fits (rw q (omega arith))))
     fitting count looked f (Sent.One x) q =
-        let p = freed-marks (sends x q) in
+        let p = freed-marks (a .willing x q) in
         let k = rw q at (a .counted) in
         rw (f .placed-is _ x p, f .looked-is _ p)
         (rw (q, k) at (a .fits (rw (q, k) (f .enough _ p))))
@@ -99,7 +85,7 @@ module _ {c : Cell} {e : Event} {found : Found} {who i : ℕ} {after : Host}
         let none = no-members n (found .receivers) (a .none q) in
         absurd (omega (arith, none, f .too-few _ (marks-freed (freesIn e) i m l)))
     lacking f (Sent.One x) q =
-        let p = freed-marks (sends x q) in
+        let p = freed-marks (a .willing x q) in
         let k = rw q at (a .counted) in
         rw (f .looked-is _ p) (rw (q, k) at (a .full (rw (q, k) (f .too-few _ p))))
 
@@ -108,17 +94,3 @@ module _ {c : Cell} {e : Event} {found : Found} {who i : ℕ} {after : Host}
     event-after =
         ⊎-elim (λ x. rw (x .0) (fitting _ _ (x .1) (found .sent) refl))
         (λ x. rw (x .0, x .1 .0, x .1 .1 .0) (lacking (x .1 .1 .1) (found .sent) refl)) w
-
-    pub count-few : placed .count ≤ n
-    unfolding Outcome
-    count-few = ⊎-elim (λ x. x .1 .few) (λ x. omega (arith, x .1 .0)) w
-
-    pub filled-few : (x : ℕ) → x < placed .count → getD filled x 0 < slotCount
-    unfolding Outcome
-    filled-few x b = ⊎-elim (λ y. y .1 .within x b) (λ y. absurd (omega (arith, b, y .1 .0))) w
-
--- the marks once a slot is freed, and once one is filled
-pub marks-free : {ss : List Slot} {marks : List ℕ} (i : ℕ) → Marks ss marks → i < slotCount
-    → Marks (freed ss i) (set marks i 0)
-unfolding isEmpty
-marks-free i m l = marks-set i 0 emptySlot m l refl

@@ -32,12 +32,11 @@ use Rattle.listing.specs.declared.Walk.{Walk}
 use Rattle.listing.specs.Listing.{scriptFrom, settingsLength, longestRun, eventsOf, namesOf}
 use Rattle.listing.specs.Listing.{eventLines}
 use Rattle.listing.specs.Listing.{stopLines, zeros, others}
-use Rattle.listing.specs.Parts.{doneOf, walkFrom, walkedTo, lastLines}
+use Rattle.listing.specs.Parts.{walkFrom, walkedTo, lastLines}
 use Rattle.listing.proofs.Counting.{done-most, done-zero, done-other, done-both}
 use Rattle.listing.proofs.Records.{script-next}
-use Rattle.run.specs.declared.Played.{Played}
-use Rattle.run.specs.Parts.{scriptAfter, eventsAfter, answeredAfter, leftBy, ahead}
-use Rattle.run.specs.Parts.{Begins, Plays}
+use Rattle.run.specs.Parts.{scriptAfter, eventsAfter, answeredAfter, ahead}
+use Rattle.run.specs.Parts.{Plays}
 
 -- a cell of these parts
 abbrev pub cellWith : Settings → List Host → List Slot → Cell
@@ -211,6 +210,7 @@ going-end {run = run} {r = r} {w = w} g t l =
       left = rw none at (g .left);
       applied = omega (arith, applied);
       refused = omega (arith, refused);
+      over = none;
       ended = λ a k. last-lines run (w .at) a k r t ∙ ap (λ ls. ls ++ (counts a k ∷ [])) (g .stops);
       written = todo-end (g .todo) (rw none) (omega (arith, l, g .near, g .same));
       near = omega (arith, g .near);

@@ -61,7 +61,8 @@ pub record Plays (c : Cell) (first : Record) (run out : List ℕ) (from : ℕ) (
       ≡ answeredAfter (answeredWith done 0 c) (eventsAfter run settingsLength first)
   pub applied : p .walk .applied ≡ zeros (answers c (eventsAfter run settingsLength first))
   pub refused : p .walk .refused ≡ others (answers c (eventsAfter run settingsLength first))
-  -- the record that ended it, and where that stands: the lines that are still to come
+  -- the record that ended it is no event; by it and its offset, the lines that are still to come
+  pub over : eventsAfter run (p .walk .at) (p .last) ≡ []
   pub ended : (a r : ℕ)
       → lastLines (p .walk .at) a r (p .last)
       ≡ stopLines (scriptAfter run settingsLength first) ++ (counts a r ∷ [])

@@ -71,6 +71,7 @@ pub fn play(opened: Answered, first: Record, run: &[u8], out: &mut [u8], from: u
         let about = slots[i];
         let who = acts::place_in(e, about, s.n);
         let mut found = acts::found_with(DONE, Sent::Nothing, 0);
+        // The arms read the slot again: read once for all, its copy would cost every event.
         match acts::way_of(e) {
             Way::Quiet => {
                 let held = slots[i];

@@ -173,25 +173,6 @@ todo-step {out} {out₁} {a} {b} {rest} {out₀} {whole} {end} {r} {at} t e p = 
       (sets-append out end a b ∙ (ap (sets out end) (sym e) ∙ t .stored));
 }
 
--- the last of it is put
-pub todo-last : {out out₁ rest out₀ whole : List ℕ} {end r at : ℕ}
-    → Todo out end rest out₀ at whole → Put out end rest r out₁ → Put out₀ at whole r out₁
-todo-last {out} {out₁} {rest} {out₀} {whole} {end} {r} {at} t p =
-    let same = ap length (t .stored) in
-    record {
-      past = p .past ∙ t .past;
-      stored = p .stored ∙ t .stored;
-      within =
-          omega (
-            arith,
-            same,
-            t .past,
-            p .within,
-            length-sets out end rest,
-            length-sets out₀ at whole,
-          );
-    }
-
 -- nothing is left
 pub todo-end : {out rest out₀ whole : List ℕ} {end at : ℕ} → Todo out end rest out₀ at whole
     → rest ≡ [] → end ≤ length out → Put out₀ at whole end out

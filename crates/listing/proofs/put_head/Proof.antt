@@ -1,5 +1,4 @@
 -- `put_head` puts the head of an event's line, by the walk's counts.
-use native.Mathlib.Omega.{arith}
 use borrow.Author.Needs.{needs}
 use Rattle.record.proofs.Laws.{kind-small}
 use Rattle.listing.proofs.put_head.Statement.{statement}

@@ -1,7 +1,6 @@
 -- `apply` is `eventOf` of any cell: 1 past the limits (`past-limits`), within them a run of one.
 use mathlib.Core.Path.{sym, _∙_}
 use native.Mathlib.Omega.{arith}
-use lib.Dec.{lit≤}
 use borrow.Author.Needs.{needs}
 use borrow.Author.Tests.{not-true, not-false}
 use Rattle.base.proofs.Lists.{length-mapped}

@@ -2,7 +2,7 @@
 -- is found by its way (`Acts`), the slots for what it sends over the marks (`Outcome`), and only
 -- then is anything stored; its line is written by the walk over names.
 use mathlib.Core.Path.{_≡_, refl, sym, ap, _∙_}
-use mathlib.Core.Bool.{Bool, true, false, cond, _&&_}
+use mathlib.Core.Bool.{true, false, _&&_}
 use mathlib.Core.Logic.{⊎-elim}
 use mathlib.Core.List.{List, [], _∷_}
 use Prim.Native.Nat.{ℕ, suc, _+_, _-_, _*_, _≤_, _<_}
@@ -28,7 +28,7 @@ use Rattle.places.specs.Places.{blankHost}
 use Rattle.places.proofs.Walks.{Span, span-none, span-next}
 use Rattle.slots.specs.declared.Slot.{Slot}
 use Rattle.slots.specs.declared.Content.{Content}
-use Rattle.slots.specs.Slots.{slotCount, isEmpty}
+use Rattle.slots.specs.Slots.{isEmpty}
 use Rattle.cell.specs.declared.Answered.{Answered}
 use Rattle.cell.specs.declared.Cell.{Cell}
 use Rattle.cell.specs.declared.Event.{Event}
@@ -43,7 +43,8 @@ use Rattle.acts.proofs.Acts as A
 use Rattle.acts.proofs.Acts.{Acts, clocksAfter}
 use Rattle.acts.proofs.Advances.{changed-on, changed-end}
 use Rattle.placing.specs.Parts.{Marks, Nines, markedFree, freedIn, stored, Outcome}
-use Rattle.placing.proofs.Laws.{marks-set}
+use Rattle.placing.proofs.Laws as L
+use Rattle.placing.proofs.Laws.{marks-set, marks-free}
 use Rattle.record.specs.declared.Record.{Record}
 use Rattle.lines.specs.Lines as lines
 use Rattle.lines.specs.Lines.{namesFrom, namesText, eventHead, lineText}
@@ -51,8 +52,7 @@ use Rattle.lines.proofs.Laws.{names-step, names-end}
 use Rattle.run.specs.Parts.{ahead}
 use Rattle.run.proofs.Playing.{cellWith, Going, going-first, going-count, going-nearer}
 use Rattle.run.proofs.Playing.{going-room, going-turn, going-end}
-use Rattle.run.proofs.Acting as B
-use Rattle.run.proofs.Acting.{storedIn, marks-free}
+use Rattle.run.proofs.Acting.{storedIn, event-after}
 use Rattle.run.proofs.play.Statement.{statement}
 use Rattle.run.proofs.play.Tie as tie
 
@@ -444,13 +444,11 @@ module _ (c : At tie.Joined4) where
 
   few-filled : p4 .place .result .count ≤ given (top h4) .n
   few-filled =
-      B.count-few (acted (met p4)) (index-few (indexed h4)) (top h4 .loop .marks) (filled p4)
-      (to p4) (p4 .place .result) (top h4 .loop .inv .3) (outcome p4)
+      L.count-few _ _ _ _ _ _ (p4 .place .result) (outcome p4)
 
   within : (x : ℕ) → x < p4 .place .result .count → getD (filled p4) x 0 < 96
   within =
-      B.filled-few (acted (met p4)) (index-few (indexed h4)) (top h4 .loop .marks) (filled p4)
-      (to p4) (p4 .place .result) (top h4 .loop .inv .3) (outcome p4)
+      L.filled-few _ _ _ _ _ _ (p4 .place .result) (outcome p4)
 
 -- ---- what is sent is stored
 
@@ -545,7 +543,7 @@ committed-event c =
     (stored-are c
     ∙ ap (storedIn (met p .match2 .found .sent) (p .place .result .count) (filled p) (to p))
     (slots-are s))
-    (B.event-after (acted (met p)) (index-few (indexed h)) (top h .loop .marks) (filled p) (to p)
+    (event-after (acted (met p)) (index-few (indexed h)) (top h .loop .marks) (filled p) (to p)
     (p .place .result) (top h .loop .inv .3) (outcome p))
 
 -- ---- the line
