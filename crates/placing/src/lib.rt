@@ -83,11 +83,16 @@ fn past_eights(marks: &[u8; 96], from: usize) -> usize
     j
 }
 
-// The first slot from one on that is empty; 96 where none is.
+// The first slot from one on that is empty; 96 where none is. Most often it is that one.
 fn next_empty(marks: &[u8; 96], from: usize) -> usize
     requires { ⌜ (from ≤ 96) × (length (now marks) ≡ 96) ⌝ }
     ensures { λ r. ⌜ NextEmpty (now (marks .entry)) from r ⌝ }
 {
+    if from < SLOTS {
+        if marks[from] == 0 {
+            return from;
+        }
+    }
     let mut j = past_eights(marks, from);
     while j < SLOTS {
         if marks[j] == 0 {
