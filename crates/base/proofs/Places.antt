@@ -1,6 +1,6 @@
 -- Laws of the place at which a refusal is found: it is that of a field that gives its number, and
 -- where fields that fail are at rising places no lower one gives it. Assumes nothing.
-use mathlib.Core.Path.{◌≡◌, refl, sym, ap, ◌∙◌}
+use mathlib.Core.Path.{◌≡◌, refl, sym, ap, subst, ◌∙◌}
 use mathlib.Core.Bool.{Bool, true, false, cond, not, ◌&&◌}
 use mathlib.Core.List.{List, [], ◌∷◌, ◌++◌, map}
 use mathlib.Core.Logic.{◌⊎◌, inl, inr}
@@ -120,8 +120,13 @@ rising_first : {Field : Type 0} (place : Field → ℕ) (low high : ℕ) (ts : L
     → All (λ t. t.holds ≡ false → fails_at place ts ≤ place t.field) ts
 unfolding Rising All fails_at
 rising_first place low high [] r = tt
-rising_first place low high (t ∷ ts) (inl (h, r)) =
-    rw h ((λ n. true_false n), rising_first place low high ts r)
+rising_first place low high (t ∷ ts) (inl (h, r)) = (
+  (λ n. true_false (sym h ∙ n)),
+  all_map ts
+      (λ u f n. subst (λ (d : Bool). cond d (fails_at place ts) (place t.field) ≤ place u.field)
+      (sym h) (f n))
+      (rising_first place low high ts r),
+)
 rising_first place low high (t ∷ ts) (inr (l, (b, r))) =
     go t.holds refl (rising_first place (place t.field) high ts r)
   where

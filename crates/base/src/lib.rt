@@ -1,5 +1,7 @@
 // The refusals of documents 01 and 02 by number. There are no functions here: specs/ and proofs/
 // hold what every crate cites.
+#![tactic(auto)]
+
 pub const DONE: u8 = 0;
 
 pub const REFUSED_CELL: u8 = 1;

@@ -1,4 +1,6 @@
 // How many hosts a cell may have, and sets of them: a u16 with one bit a host.
+#![tactic(auto)]
+
 ghost use Rattle.std.specs.Prelude.{◌≡◌, ◌<◌, ◌≤◌};
 ghost use Rattle.quorum.specs.Sets.{cell_fits, is_in, single_of, with_host, everyone_of, others_of};
 ghost use Rattle.quorum.specs.Sets.{is_below, is_only, size_of, is_majority};

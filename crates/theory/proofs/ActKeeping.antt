@@ -31,9 +31,9 @@ module _ {𝒞 : Setup} where
         (record {
           wait_short = omega arith;
           promised_old = λ b l. absurd (omega arith);
-          accepted_ok_lem = λ a q. absurd (none-ne-some a q);
+          accepted_ok = λ a q. absurd (none-ne-some a q);
           accepted_kept = λ b o e v p k l. absurd (omega (arith, outwaited b o e p));
-          round_ok_lem = tt;
+          round_ok = tt;
           named_ok = λ n q. absurd (none-ne-some n q);
         })
         (λ b o e q. absurd (none-ne-some _ q))
@@ -56,12 +56,12 @@ module _ {𝒞 : Setup} where
         (record {
           wait_short = H.wait_short;
           promised_old = λ c l. omega (arith, I.messages _ q h);
-          accepted_ok_lem = λ a z.
+          accepted_ok = λ a z.
               (L.sent _ (H.accepted_ok a z).0, omega (arith, (H.accepted_ok a z).1));
           accepted_kept =
               accepted_kept_on I L h v.wait v.wait v.accepted v.accepted
               (voted_before I h w m (omega arith) h) (le_refl _) (le_refl _) H.accepted_kept;
-          round_ok_lem =
+          round_ok =
               round_kept I L h v.last v.round (mute I h w m (omega arith) h)
               (firm I h w m (omega arith) h) H.round_ok;
           named_ok =
@@ -111,14 +111,14 @@ module _ {𝒞 : Setup} where
         (record {
           wait_short = H.wait_short;
           promised_old = λ c l. omega (arith, (I.messages _ q).old h);
-          accepted_ok_lem = λ k z.
+          accepted_ok = λ k z.
               subst
               (λ k.
               Proposed (put s h w m) k.ballot k.owner k.end × (k.ballot < w.promised))
               (some-injective a k z)
               (L.sent _ q, omega arith);
           accepted_kept = λ c o' e' x p k l. topped c o' e' (with_cases m x) (unsaid c o' e' p) k l;
-          round_ok_lem =
+          round_ok =
               round_kept I L h v.last v.round (mute I h w m (omega arith) h)
               (firm I h w m (omega arith) h) H.round_ok;
           named_ok =

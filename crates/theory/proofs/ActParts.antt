@@ -113,11 +113,11 @@ module _ {𝒞 : Setup} where
         record {
           wait_short = H.wait_short;
           promised_old = H.promised_old;
-          accepted_ok_lem = λ a q. (L.sent _ (H.accepted_ok a q).0, (H.accepted_ok a q).1);
+          accepted_ok = λ a q. (L.sent _ (H.accepted_ok a q).0, (H.accepted_ok a q).1);
           accepted_kept =
               accepted_kept_on I L h v.wait v.wait v.accepted v.accepted
               (voted_before (with_asking v l r) m qu h) (le_refl _) (le_refl _) H.accepted_kept;
-          round_ok_lem = k;
+          round_ok = k;
           named_ok =
               named_kept I L h v.named refl (firm (with_asking v l r) m nr h) H.named_ok;
         }
@@ -143,11 +143,11 @@ module _ {𝒞 : Setup} where
         (record {
           wait_short = H.wait_short;
           promised_old = H.promised_old;
-          accepted_ok_lem = λ a q. (L.sent _ (H.accepted_ok a q).0, (H.accepted_ok a q).1);
+          accepted_ok = λ a q. (L.sent _ (H.accepted_ok a q).0, (H.accepted_ok a q).1);
           accepted_kept =
               accepted_kept_on I L h v.wait v.wait v.accepted v.accepted (λ b q. q)
               (le_refl _) (le_refl _) H.accepted_kept;
-          round_ok_lem =
+          round_ok =
               round_kept I L h v.last v.round (mute w none (omega arith) h)
               (firm w none (omega arith) h) H.round_ok;
           named_ok =

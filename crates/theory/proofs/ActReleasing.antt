@@ -54,11 +54,11 @@ module _ {𝒞 : Setup} where
         (record {
           wait_short = H.wait_short;
           promised_old = H.promised_old;
-          accepted_ok_lem = λ a q. (L.sent _ (H.accepted_ok a q).0, (H.accepted_ok a q).1);
+          accepted_ok = λ a q. (L.sent _ (H.accepted_ok a q).0, (H.accepted_ok a q).1);
           accepted_kept =
               accepted_kept_on I L h v.wait v.wait v.accepted v.accepted
               (voted_before I h w m (omega arith) h) (le_refl _) (le_refl _) H.accepted_kept;
-          round_ok_lem = no_round_lem (put s h w m) h w.last w.round (omega arith);
+          round_ok = no_round_lem (put s h w m) h w.last w.round (omega arith);
           named_ok = no_holder_lem (put s h w m) h w.named (omega arith);
         })
         (λ b o e q. absurd (omega (arith, ap kind q)))
@@ -96,9 +96,9 @@ module _ {𝒞 : Setup} where
         (record {
           wait_short = H.wait_short;
           promised_old = λ c l. omega (arith, I.messages _ q, I.near (proposer b) h);
-          accepted_ok_lem = λ a z. still_ok a z lease;
+          accepted_ok = λ a z. still_ok a z lease;
           accepted_kept = λ c o e x p k l. kept c o e x p k l lease;
-          round_ok_lem =
+          round_ok =
               round_kept I L h v.last v.round (mute I h w none (omega arith) h)
               (firm I h w none (omega arith) h) H.round_ok;
           named_ok = λ n z. still_named n z holder;

@@ -230,10 +230,10 @@ module _ {𝒞 : Setup} where
     host_kept x v c quiet mute firm h = record {
       wait_short = omega (arith, h.wait_short);
       promised_old = λ b l. omega (arith, h.promised_old b l);
-      accepted_ok_lem = λ a q. (L.sent _ (h.accepted_ok a q).0, (h.accepted_ok a q).1);
+      accepted_ok = λ a q. (L.sent _ (h.accepted_ok a q).0, (h.accepted_ok a q).1);
       accepted_kept =
           accepted_kept_on x v.wait v.wait v.accepted v.accepted quiet (omega arith)
           (omega arith) h.accepted_kept;
-      round_ok_lem = round_kept x v.last v.round mute firm h.round_ok;
+      round_ok = round_kept x v.last v.round mute firm h.round_ok;
       named_ok = named_kept x v.named c firm h.named_ok;
     }

@@ -152,11 +152,11 @@ module _ {𝒞 : Setup} where
   pub record HostOk (s : World 𝒞) (x : ℕ) (v : Host 𝒞) : Type 0 where
     pub wait_short : v.wait ≤ s.clock x + T + S
     pub promised_old : (b : ℕ) → b < v.promised → tick b ≤ s.clock x + S
-    pub accepted_ok_lem : (a : Lease) → v.accepted ≡ some a
+    pub accepted_ok : (a : Lease) → v.accepted ≡ some a
         → Proposed s a.ballot a.owner a.end × (a.ballot < v.promised)
     pub accepted_kept : (b o e : ℕ) → Voted s x b → Proposed s b o e → Live s b o e → v.wait < e
         → b < top v.accepted
-    pub round_ok_lem : RoundOk s x v.last v.round
+    pub round_ok : RoundOk s x v.last v.round
     pub named_ok : (n : Holder) → v.named ≡ some n → Naming s x n
 
   -- ---- the invariant

@@ -5,7 +5,7 @@ use borrow.Author.Rules.{rules}
 use Rattle.quorum.proofs.others_of.Statement.{statement}
 use Rattle.quorum.proofs.others_of.Tie as tie
 
-sub_result : tie.Need-overflow-sub-result
+sub_result : tie.Need-overflow_sub-result
 sub_result c =
     rw (c.single_of.ensures, c.before.everyone_of.ensures)
     (omega (
