@@ -1,5 +1,7 @@
 // Reads a run file from standard input and writes its listing to standard output, and nothing else.
 // A write that fails ends it quietly.
+#![tactic(auto)]
+
 use libc::{STDIN_FILENO, STDOUT_FILENO};
 
 fn main() {

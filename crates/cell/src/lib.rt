@@ -1,6 +1,8 @@
 // The cell as a value: nine places for hosts, and the messages under way in 96 slots. Its limits,
 // and opening; what each event does to it is defined here (specs/Events.antt), and carried out by
 // the loop of the crate `run`.
+#![tactic(auto)]
+
 ghost use Rattle.std.specs.Prelude.{◌≡◌};
 ghost use Rattle.places.specs.Parts.{Opens};
 ghost use Rattle.cell.specs.CellLimits.{cell_ok};
@@ -14,7 +16,7 @@ use slots::Slot;
 use state::Settings;
 
 // Places at n or above hold the blank host.
-#[derive(Drop)]
+#[derive(Clone, Copy)]
 pub struct Cell {
     pub settings: Settings,
     pub hosts: [Host; 9],
@@ -22,7 +24,7 @@ pub struct Cell {
 }
 
 // The eight events: ticks to advance by, a host's number, a duration, a slot's number.
-#[derive(Drop)]
+#[derive(Clone, Copy)]
 pub enum Event {
     AdvanceAll(u64),
     AdvanceOne(u8, u64),
@@ -36,7 +38,7 @@ pub enum Event {
 
 // What opening or an event gives, and the next event is handed: the answer's number, how many slots
 // were looked at to place what was sent, and the cell, side by side.
-#[derive(Drop)]
+#[derive(Clone, Copy)]
 pub struct Answered {
     pub answer: u8,
     pub looked: usize,

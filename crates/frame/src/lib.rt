@@ -1,5 +1,7 @@
 // Frames: reading one, writing one to its message's target, and writing one message to a set of
 // receivers.
+#![tactic(auto)]
+
 ghost use Rattle.std.specs.Prelude.{◌≡◌, ◌+◌, ◌*◌, ◌≤◌, length};
 ghost use Rattle.std.proofs.lemmas.List.Edits.{sets};
 ghost use Rattle.std.specs.Int.Count.{ones};
@@ -21,7 +23,7 @@ use message::{Message, Numbers, Sizes};
 
 // What reading finds: a message with its frame's length, or the number of the refusal and the
 // offset in the lent bytes at which it is found.
-#[derive(Drop)]
+#[derive(Clone, Copy)]
 pub enum Reading {
     Whole(Message, usize),
     Refused(u8, usize),
@@ -61,7 +63,7 @@ impl Reading {
 
 // What is found in lent bytes: a frame's numbers with its length, or the number of the refusal and
 // its offset.
-#[derive(Drop)]
+#[derive(Clone, Copy)]
 pub enum Found {
     Frame(Numbers, usize),
     Fault(u8, usize),
@@ -123,7 +125,7 @@ pub fn read(z: Sizes, s: &[u8]) -> Reading
 }
 
 // The answer's number, and how many bytes were written.
-#[derive(Drop)]
+#[derive(Clone, Copy)]
 pub struct Written {
     pub answer: u8,
     pub len: usize,

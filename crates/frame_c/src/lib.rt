@@ -1,5 +1,7 @@
 // Frames for hosts written in C: numbers and byte slices. include/lease_frame.h declares these
 // functions.
+#![tactic(auto)]
+
 ghost use Rattle.std.specs.Prelude.{◌≡◌, length};
 ghost use Rattle.message.specs.Faults.{sizes};
 ghost use Rattle.frame.specs.Reading.{read_of, number_of, length_of, refused_at};

@@ -1,6 +1,8 @@
 // Shows frames being read and written: document 01's P11 and P12, each kind once, each refusal
 // once, where some are found, and for each kind all 65,536 values of the length field, counted by
 // answer. Its output is held to the file stdout.
+#![tactic(auto)]
+
 ghost use Rattle.std.specs.Prelude.{◌≤◌};
 
 use base::REFUSED_SHORT;

@@ -1,6 +1,8 @@
 // One host of one sheet: proposer, acceptor and learner. This crate is the rule book: a method for
 // each event or message that hands the host back with the answer, at most one message and the set
 // of its receivers. A refusal hands back the same host and no message.
+#![tactic(auto)]
+
 ghost use Rattle.std.specs.Prelude.{◌≡◌, true, ◌+◌, ◌≤◌};
 ghost use Rattle.message.specs.declared.Message.TheVariants.{PrepareRequest, PrepareResponseEmpty};
 ghost use Rattle.message.specs.declared.Message.TheVariants.{PrepareResponseLease, ProposeRequest};
@@ -35,7 +37,7 @@ const ANY_TARGET: u8 = 0;
 
 // A host's number in its cell, its clock, the tick at which its wait ends, and what it keeps of the
 // sheet.
-#[derive(Drop)]
+#[derive(Clone, Copy)]
 pub struct Host {
     pub number: u8,
     pub clock: u64,
@@ -44,14 +46,14 @@ pub struct Host {
 }
 
 // The message that a step sends, if any.
-#[derive(Drop)]
+#[derive(Clone, Copy)]
 pub enum Sent {
     Nothing,
     One(Message),
 }
 
 // What a step gives: the answer's number, the host, the message and the set of its receivers.
-#[derive(Drop)]
+#[derive(Clone, Copy)]
 pub struct Stepped {
     pub answer: u8,
     pub host: Host,

@@ -1,6 +1,8 @@
 // Where each field of a frame stands: a message's numbers read from lent bytes and written into
 // them, and the offset of what is refused in them. An end is a plain number only here, between its
 // field and its own type.
+#![tactic(auto)]
+
 ghost use Rattle.std.specs.Prelude.{◌≡◌, [], ◌∷◌, ◌+◌, ◌≤◌, length, ltb};
 ghost use Rattle.std.proofs.lemmas.List.Edits.{sets};
 ghost use Rattle.wire.specs.Wire.{packed};

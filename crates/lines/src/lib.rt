@@ -1,5 +1,7 @@
 // The lines of a listing, written into lent bytes at an offset, and whom hosts name, as bytes of a
 // line. Each function that writes gives the offset past what it wrote.
+#![tactic(auto)]
+
 ghost use Rattle.std.specs.Prelude.{◌≡◌, [], ◌∷◌, ◌+◌, ◌*◌, ◌≤◌, ◌<◌, length};
 ghost use Rattle.text.specs.Parts.{Put};
 ghost use Rattle.places.specs.Parts.{Mirrors};

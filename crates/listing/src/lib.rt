@@ -1,6 +1,8 @@
 // What the listing of a run file is, and the parts of it that need no cell: the room for it, how
 // far the walk has come, the line of an event, how a listing ends, and that of a file that is too
 // long. The crate `player` writes the rest.
+#![tactic(auto)]
+
 ghost use Rattle.std.specs.Prelude.{◌≡◌, ◌+◌, ◌≤◌, ◌<◌, ltb, length};
 ghost use Rattle.text.specs.Parts.{Put};
 ghost use Rattle.base.specs.Refusals.{refused_long};
@@ -16,7 +18,7 @@ use record::{Record, SETTINGS_LENGTH};
 
 // How far the walk of a run file has come, where its listing goes on, its counts so far, and what
 // the last event was answered, with how many slots it looked at.
-#[derive(Drop)]
+#[derive(Clone, Copy)]
 pub struct Walk {
     pub at: usize,
     pub pos: usize,
@@ -27,7 +29,7 @@ pub struct Walk {
 }
 
 // The answer's number, and how many bytes were written.
-#[derive(Drop)]
+#[derive(Clone, Copy)]
 pub struct Listed {
     pub answer: u8,
     pub len: usize,

@@ -1,5 +1,7 @@
 // Ballots, the two ends of a lease, the seven messages, their kinds, and what is refused in a
 // message: 5, 6 and 7.
+#![tactic(auto)]
+
 ghost use Rattle.std.specs.Prelude.{◌≡◌, ◌+◌, ◌-◌, ◌≤◌};
 ghost use Rattle.base.specs.Refusals.{all_hold, answer_by};
 ghost use Rattle.message.specs.Message.{last_end, is_above, is_same, to_holders, to_keepers};
@@ -12,7 +14,7 @@ ghost use Rattle.message.specs.Faults.{party_fits, party_fits_to, fault_of, faul
 use base::{DONE, REFUSED_HOST, REFUSED_PARTY, REFUSED_TICK};
 
 // What whoever reads or writes frames is handed: how many hosts the cell has.
-#[derive(Drop)]
+#[derive(Clone, Copy)]
 pub struct Sizes {
     pub n: u8,
 }
@@ -31,7 +33,7 @@ pub const LAST_TICK: u64 = 281474976710656;
 pub const LAST_END: u64 = 281477124194304;
 
 // Ordered by tick, then by host.
-#[derive(Drop)]
+#[derive(Clone, Copy)]
 pub struct Ballot {
     pub tick: u64,
     pub host: u8,
@@ -57,11 +59,11 @@ impl Ballot {
 }
 
 // The keepers' end of a lease: carried in proposals and held by acceptors.
-#[derive(Drop)]
+#[derive(Clone, Copy)]
 pub struct KeepersEnd(pub u64);
 
 // The holder's end of a lease: carried in learn messages and held by whoever names the holder.
-#[derive(Drop)]
+#[derive(Clone, Copy)]
 pub struct HoldersEnd(pub u64);
 
 impl KeepersEnd {
@@ -85,7 +87,7 @@ impl HoldersEnd {
 }
 
 // A lease as acceptors hold it.
-#[derive(Drop)]
+#[derive(Clone, Copy)]
 pub struct Lease {
     pub ballot: Ballot,
     pub owner: u8,
@@ -93,7 +95,7 @@ pub struct Lease {
 }
 
 // What every message has.
-#[derive(Drop)]
+#[derive(Clone, Copy)]
 pub struct Head {
     pub sender: u8,
     pub target: u8,
@@ -112,14 +114,14 @@ pub fn head_with(sender: u8, target: u8, ballot: Ballot) -> Head
 }
 
 // A prepare response that tells of an accepted lease.
-#[derive(Drop)]
+#[derive(Clone, Copy)]
 pub struct LeaseResponse {
     pub head: Head,
     pub accepted: Lease,
 }
 
 // A propose request: the lease that is to be accepted.
-#[derive(Drop)]
+#[derive(Clone, Copy)]
 pub struct Proposal {
     pub head: Head,
     pub owner: u8,
@@ -127,7 +129,7 @@ pub struct Proposal {
 }
 
 // A learn message: the lease that was chosen, as its holder has it.
-#[derive(Drop)]
+#[derive(Clone, Copy)]
 pub struct LearnedLease {
     pub head: Head,
     pub owner: u8,
@@ -135,7 +137,7 @@ pub struct LearnedLease {
 }
 
 // The seven messages, in the order of their kinds.
-#[derive(Drop)]
+#[derive(Clone, Copy)]
 pub enum Message {
     PrepareRequest(Head),
     PrepareResponseEmpty(Head),
@@ -183,7 +185,7 @@ pub fn is_response(kind: u16) -> bool
 
 // A message as numbers. `numbers_of` gives 0 for those that the kind lacks, and `message_of` does
 // not look at them.
-#[derive(Drop)]
+#[derive(Clone, Copy)]
 pub struct Numbers {
     pub kind: u16,
     pub sender: u8,

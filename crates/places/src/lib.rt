@@ -1,5 +1,7 @@
 // The nine places for hosts: whether what they hold is within its limits, their clocks as numbers
 // and how far apart these are, and what opening leaves there.
+#![tactic(auto)]
+
 ghost use Rattle.std.specs.Prelude.{◌≡◌, ◌<◌, ◌≤◌, ◌-◌, max, min, leb, length};
 ghost use Rattle.places.specs.Places.{place_ok, state_at_ok, places_ok, states_ok, clocks_ok};
 ghost use Rattle.places.specs.Places.{new_host, new_hosts};

@@ -1,5 +1,7 @@
 // The walk that places, over lent marks of the slots: which slots are to be filled, and for whom,
 // or that there is no room. It stores nothing but what it found.
+#![tactic(auto)]
+
 ghost use Rattle.std.specs.Prelude.{◌≡◌, ◌<◌, ◌≤◌, eqb, length};
 ghost use Rattle.slots.specs.Slots.{is_empty};
 ghost use Rattle.placing.specs.Parts.{Marks, Passed, NextEmpty, Walks, Outcome, Nines};
@@ -9,7 +11,7 @@ use base::REFUSED_FULL;
 use slots::{Content, SLOTS, Slot};
 
 // The answer, how many slots are to be filled, and how many were looked at.
-#[derive(Drop)]
+#[derive(Clone, Copy)]
 pub struct Placed {
     pub answer: u8,
     pub count: usize,
@@ -18,7 +20,7 @@ pub struct Placed {
 
 // What the walk found: whether there is room, how many slots are to be filled, and how many were
 // looked at.
-#[derive(Drop)]
+#[derive(Clone, Copy)]
 pub struct Walked {
     pub fits: bool,
     pub count: usize,

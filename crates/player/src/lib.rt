@@ -1,4 +1,6 @@
 // The listing of a run file: from lent bytes to lent bytes.
+#![tactic(auto)]
+
 ghost use Rattle.std.specs.Prelude.{◌≡◌, ◌≤◌, length};
 ghost use Rattle.text.specs.Parts.{Put};
 ghost use Rattle.lines.specs.Lines.{text_of};

@@ -1,5 +1,7 @@
 // Words, numbers and line ends on standard output, for the programs that show what the libraries
 // do.
+#![tactic(auto)]
+
 use libc::STDOUT_FILENO;
 
 // Writes these bytes as they are.

@@ -1,13 +1,15 @@
 // The reader that keeps the lent run file and its place in it. Each method takes the struct apart
 // and asks a function on a slice and a number; `read_at` has plain parameters, so that whoever
 // calls it holds no Reader.
+#![tactic(auto)]
+
 ghost use Rattle.std.specs.Prelude.{◌≡◌};
 ghost use Rattle.record.specs.Record.{record_at};
 
 use record::Record;
 
 // A run file, and an offset in it.
-#[derive(Drop)]
+#[derive(Clone, Copy)]
 pub struct Reader<'a> {
     pub run: &'a [u8],
     pub at: usize,

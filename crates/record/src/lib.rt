@@ -1,4 +1,6 @@
 // The records of a run file: what stands at an offset of it, and where opening refuses the first.
+#![tactic(auto)]
+
 ghost use Rattle.std.specs.Prelude.{◌≡◌, ◌+◌, ◌≤◌, length};
 ghost use Rattle.record.specs.Record.{kind_of, is_allowed, record_length, head_of};
 ghost use Rattle.record.specs.Record.{values_at, event_with, record_at, first_record};
@@ -13,14 +15,14 @@ use state::{LAST_LONGEST, Settings};
 // A fault is given by its number and by its offset, counted from the record's start.
 
 // The first two fields of a record, found right: its kind and the offset past it; or the fault.
-#[derive(Drop)]
+#[derive(Clone, Copy)]
 pub enum Head {
     Fault(u8, usize),
     Whole(u16, usize),
 }
 
 // The file's end; the fault; or an event and the offset of the next record.
-#[derive(Drop)]
+#[derive(Clone, Copy)]
 pub enum Record {
     End,
     Fault(u8, usize),
@@ -28,7 +30,7 @@ pub enum Record {
 }
 
 // What the first record says, settings and opening clock; or the fault.
-#[derive(Drop)]
+#[derive(Clone, Copy)]
 pub enum First {
     Fault(u8, usize),
     Given(Settings, u64),

@@ -1,5 +1,7 @@
 // The bytes that the programs lend. The contracts give only their lengths, so that no proof above
 // computes them.
+#![tactic(auto)]
+
 ghost use Rattle.std.specs.Prelude.{◌≡◌, length};
 
 // The longest run file and one byte more.

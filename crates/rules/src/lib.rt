@@ -1,6 +1,8 @@
 // The leaf rules of a host: what is promised, accepted, kept, proposed, named and dropped, and when
 // a round acts. Each is one sentence of document 01 or 02, as a free function on small values; the
 // host's methods only put them together.
+#![tactic(auto)]
+
 ghost use Rattle.std.specs.Prelude.{◌≡◌, ◌<◌, ◌≤◌, ◌^◌};
 ghost use Rattle.message.specs.Message.{last_tick};
 ghost use Rattle.rules.specs.Rules.{may_promise, is_forbidden, may_accept, accepted_at, named_at};
@@ -13,28 +15,28 @@ ghost use Rattle.rules.specs.Rules.{freed_holder, after_release};
 use message::{Ballot, Head, HoldersEnd, KeepersEnd, LearnedLease, Lease};
 
 // The promised ballot, or none.
-#[derive(Drop)]
+#[derive(Clone, Copy)]
 pub enum Promised {
     Nothing,
     To(Ballot),
 }
 
 // The accepted lease, or none.
-#[derive(Drop)]
+#[derive(Clone, Copy)]
 pub enum Accepted {
     Nothing,
     One(Lease),
 }
 
 // The tick of a host's last ballot, or none.
-#[derive(Drop)]
+#[derive(Clone, Copy)]
 pub enum LastBallot {
     Never,
     At(u64),
 }
 
 // A holder as whoever names it has it.
-#[derive(Drop)]
+#[derive(Clone, Copy)]
 pub struct Holder {
     pub ballot: Ballot,
     pub owner: u8,
@@ -42,21 +44,21 @@ pub struct Holder {
 }
 
 // The named holder, or none.
-#[derive(Drop)]
+#[derive(Clone, Copy)]
 pub enum Named {
     Nobody,
     One(Holder),
 }
 
 // The owner and the end of a lease to propose: in the field's word the value of a proposal.
-#[derive(Drop)]
+#[derive(Clone, Copy)]
 pub struct Value {
     pub owner: u8,
     pub end: KeepersEnd,
 }
 
 // What an acceptor keeps.
-#[derive(Drop)]
+#[derive(Clone, Copy)]
 pub struct Vote {
     pub promised: Promised,
     pub accepted: Accepted,

@@ -1,5 +1,7 @@
 // Events run one after the other, with a line for each: the one loop that commits events. An event
 // by itself is a run of one.
+#![tactic(auto)]
+
 ghost use Rattle.std.specs.Prelude.{◌≡◌};
 ghost use Rattle.cell.specs.Events.{cell_of, event_of};
 ghost use Rattle.run.specs.Parts.{Begins, Plays};
@@ -14,7 +16,7 @@ use slots::{Content, Slot};
 use state::Settings;
 
 // What a run leaves: the cell, the record that ended it, and how far the walk came.
-#[derive(Drop)]
+#[derive(Clone, Copy)]
 pub struct Played {
     pub settings: Settings,
     pub hosts: [Host; 9],

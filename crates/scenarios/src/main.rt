@@ -1,6 +1,8 @@
 // The situations that could only be met by luck before, as run files in data/: the listing of each,
 // beneath a line that says what it shows. Held to the file stdout. (A frame whose length field lies
 // is the program `frames`.)
+#![tactic(auto)]
+
 use libc::STDOUT_FILENO;
 
 // Writes the listing of a run file.

@@ -1,5 +1,7 @@
 // The messages under way: 96 slots, each empty or holding one message, and whether they are within
 // their limits.
+#![tactic(auto)]
+
 ghost use Rattle.std.specs.Prelude.{◌≡◌};
 ghost use Rattle.slots.specs.Slots.{is_empty, content_ok, slots_ok, no_messages};
 
@@ -10,14 +12,14 @@ use message::{Message, Sizes};
 pub const SLOTS: usize = 96;
 
 // What a slot holds.
-#[derive(Drop)]
+#[derive(Clone, Copy)]
 pub enum Content {
     Empty,
     One(Message),
 }
 
 // One of the places for a message under way.
-#[derive(Drop)]
+#[derive(Clone, Copy)]
 pub struct Slot {
     pub content: Content,
 }

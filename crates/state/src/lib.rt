@@ -1,5 +1,7 @@
 // What a host keeps of one sheet, the settings of a cell, and whether their numbers are within
 // document 01's limits (number 1); and what a restart, a clock and a release leave of a state.
+#![tactic(auto)]
+
 ghost use Rattle.std.specs.Prelude.{◌≡◌};
 ghost use Rattle.state.specs.Ageing.{aged_at};
 ghost use Rattle.state.specs.Releasing.{released_at, freed_by};
@@ -16,7 +18,7 @@ use rules::{Accepted, LastBallot, Named, Promised, Vote};
 pub const LAST_LONGEST: u32 = 2147483648;
 
 // The settings of a cell: how many hosts, T, the longest lease, and S, the spread of clocks.
-#[derive(Drop)]
+#[derive(Clone, Copy)]
 pub struct Settings {
     pub n: u8,
     pub longest: u32,
@@ -24,7 +26,7 @@ pub struct Settings {
 }
 
 // A round that asks for promises: the first phase of Paxos.
-#[derive(Drop)]
+#[derive(Clone, Copy)]
 pub struct Asking {
     pub ballot: Ballot,
     pub duration: u32,
@@ -33,7 +35,7 @@ pub struct Asking {
 }
 
 // A round that proposes: the second phase of Paxos.
-#[derive(Drop)]
+#[derive(Clone, Copy)]
 pub struct Proposing {
     pub ballot: Ballot,
     pub owner: u8,
@@ -42,7 +44,7 @@ pub struct Proposing {
 }
 
 // What a host is doing as proposer.
-#[derive(Drop)]
+#[derive(Clone, Copy)]
 pub enum Round {
     Idle,
     Asking(Asking),
@@ -50,7 +52,7 @@ pub enum Round {
 }
 
 // All that a host keeps but its number, its clock and the end of its wait.
-#[derive(Drop)]
+#[derive(Clone, Copy)]
 pub struct State {
     pub promised: Promised,
     pub accepted: Accepted,

@@ -1,4 +1,6 @@
 // Text in lent bytes: each function writes at an offset and gives the offset past what it wrote.
+#![tactic(auto)]
+
 ghost use Rattle.std.specs.Prelude.{◌∷◌, [], ◌+◌, ◌≤◌, length};
 ghost use Rattle.text.specs.Text.{decimal, spaced};
 ghost use Rattle.text.specs.Parts.{Put, pair_of, triple_of};
