@@ -4,7 +4,7 @@ use mathlib.Core.Path.{◌≡◌, ap}
 use mathlib.Core.Bool.{true}
 use lib.Dec.{eqb}
 use borrow.Author.Tests.{ltb-true, eqb-true, eq-eqb}
-use Rattle.quorum.specs.Sets.{bit, is_in, is_below, is_majority, Member}
+use Rattle.quorum.specs.Sets.{bit, is_below, is_majority, Member}
 use Rattle.quorum.specs.Claims.{Claims}
 use Rattle.quorum.proofs.Majorities.{majorities_meet, with_again, with_new, absent}
 use Rattle.quorum.proofs.Majorities.{with_other}

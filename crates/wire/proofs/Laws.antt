@@ -132,8 +132,7 @@ numbers_packed (w ∷ ws) [] t f = absurd f
 numbers_packed (w ∷ ws) (v ∷ vs) t f =
     let r = packed ws vs ++ t in
     let e : 0 + w ≡ length (le w v) + 0 = omega (arith, le_length w v) in
-    rw (
-      append_assoc (le w v) (packed ws vs) t,
+    ap (λ (s : List ℕ). numbers_at s 0 (w ∷ ws)) (append_assoc (le w v) (packed ws vs) t) ∙ rw (
       number_le w v r f.0,
       e,
       numbers_past (le w v) r ws 0,

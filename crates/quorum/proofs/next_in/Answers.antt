@@ -1,11 +1,8 @@
 -- `next_in` passes over the hosts that are not in the set: what is found from h on is what is found
 -- from the start on.
-use mathlib.Core.Path.{◌≡◌, refl, sym, ◌∙◌}
-use Prim.Native.Nat.{◌-◌, ◌≤◌, ◌<◌}
+use mathlib.Core.Path.{refl, sym, ◌∙◌}
 use native.Mathlib.Omega.{arith}
-use borrow.Author.Rules.{rules}
 use Rattle.base.proofs.Tests.{told}
-use Rattle.quorum.specs.Parts.{next_in}
 use Rattle.quorum.proofs.Next.{next_here, next_later, next_end}
 use Rattle.quorum.proofs.next_in.Goals as goal
 

@@ -1,7 +1,6 @@
 -- `others_of` is everyone's set less one host's: 2^host is below 2^n, so it can be taken off.
 use native.Mathlib.Omega.{arith}
 use lib.Pow.{pow-lt}
-use borrow.Author.Rules.{rules}
 use Rattle.quorum.proofs.others_of.Goals as goal
 
 pub overflow_sub-result : goal.overflow_sub-result

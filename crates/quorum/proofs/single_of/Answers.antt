@@ -1,6 +1,5 @@
 -- `single_of`: a one shifted by a host below 16 is 2^host (`shifted`).
 use Rattle.quorum.proofs.Laws.{shifted}
-use borrow.Author.Rules.{rules}
 use Rattle.quorum.proofs.single_of.Goals as goal
 
 pub returns : goal.returns

@@ -1,5 +1,4 @@
 -- `with_host` is the set joined with the set of the one host.
-use borrow.Author.Rules.{rules}
 use Rattle.quorum.proofs.with_host.Goals as goal
 
 pub returns : goal.returns
