@@ -3,9 +3,9 @@ use mathlib.Core.Path.{refl}
 use Rattle.base.specs.Lists.{all_of}
 use Rattle.message.specs.Message.{last_tick}
 use Rattle.state.specs.StateLimits.{ballot_ok}
-use Rattle.state.proofs.ballot_ok.Statement.{statement}
-use Rattle.state.proofs.ballot_ok.Tie as tie
+use Rattle.state.proofs.ballot_ok.Goals as goal
 
-pub ballot_ok_spec : {M : Type 1} → statement M
+pub returns : goal.returns
 unfolding ballot_ok last_tick all_of
-ballot_ok_spec = tie.close (tie.spec (λ c. refl))
+returns c =
+    refl
