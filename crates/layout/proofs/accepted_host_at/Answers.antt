@@ -3,7 +3,6 @@
 use borrow.Author.Tests.{ne_eqb}
 use Rattle.layout.specs.Layout.{more_of, offset_in}
 use Rattle.layout.proofs.Laws.{no_accepted}
-use borrow.Author.Rules.{rules}
 use Rattle.layout.proofs.accepted_host_at.Goals as goal
 
 pub returns-then-kind-eq-PREPARE_RESPONSE_LEASE : goal.returns-then-kind-eq-PREPARE_RESPONSE_LEASE

@@ -1,6 +1,5 @@
 -- `head_at` reads sender, target and ballot: the code's offsets are those of the list of fields.
 use Rattle.layout.specs.Layout.{offset_in}
-use borrow.Author.Rules.{rules}
 use Rattle.layout.proofs.head_at.Goals as goal
 
 pub returns : goal.returns

@@ -2,7 +2,6 @@
 use borrow.Author.Tests.{ne_eqb}
 use Rattle.layout.specs.Layout.{more_of, offset_in}
 use Rattle.layout.proofs.Laws.{no_holders_lem}
-use borrow.Author.Rules.{rules}
 use Rattle.layout.proofs.holders_end_at.Goals as goal
 
 pub returns-then-kind-eq-LEARN : goal.returns-then-kind-eq-LEARN

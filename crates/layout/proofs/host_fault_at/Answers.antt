@@ -3,7 +3,6 @@
 use borrow.Author.Tests.{lt-ltb, le-ltb}
 use Rattle.base.specs.Refusals.{fails_at}
 use Rattle.layout.specs.Layout.{more_of, offset_in}
-use borrow.Author.Rules.{rules}
 use Rattle.layout.proofs.host_fault_at.Goals as goal
 
 pub returns-then-z-f : goal.returns-then-z-f

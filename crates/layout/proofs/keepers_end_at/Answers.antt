@@ -3,7 +3,6 @@
 use borrow.Author.Tests.{ne_eqb}
 use Rattle.layout.specs.Layout.{more_of, offset_in}
 use Rattle.layout.proofs.Laws.{no_keepers_lem}
-use borrow.Author.Rules.{rules}
 use Rattle.layout.proofs.keepers_end_at.Goals as goal
 
 pub returns-in-3 : goal.returns-in-3
@@ -19,6 +18,6 @@ returns-in-4 c =
 pub returns-in_default : goal.returns-in_default
 unfolding more_of offset_in
 returns-in_default c =
-    let rest = c.in_default.rest in
+    let rest = c.in_default.in_default-own.rest in
     rw c.kind_length.ensures
     (no_keepers_lem _ (ne_eqb _ _ rest.0.1) (ne_eqb _ _ rest.1))

@@ -7,10 +7,20 @@ use Rattle.layout.specs.Layout.{more_of, kind_length, offset_in, value_in, numbe
 use borrow.Author.Rules.{rules}
 use Rattle.layout.proofs.numbers_at.Goals as goal
 
+pub head_at-head-requires : goal.head_at-head-requires
+unfolding kind_length numbers_in more_of value_in numbers_at total offset_in
+head_at-head-requires c =
+    search rules
+
 pub lease_at-l-requires : goal.lease_at-l-requires
 unfolding kind_length numbers_in more_of value_in numbers_at total offset_in
 lease_at-l-requires c =
     rw c.if-kind-eq-PREPARE_RESPONSE_LEASE.true at c.requires
+
+pub numbers_with-requires : goal.numbers_with-requires
+unfolding kind_length numbers_in more_of value_in numbers_at total offset_in
+numbers_with-requires c =
+    search rules
 
 pub returns-then-kind-eq-PREPARE_RESPONSE_LEASE : goal.returns-then-kind-eq-PREPARE_RESPONSE_LEASE
 unfolding kind_length numbers_in more_of value_in numbers_at total offset_in
@@ -33,6 +43,11 @@ unfolding kind_length numbers_in more_of value_in numbers_at total offset_in
 byte-requires c =
     let h = rw c.if-kind-eq-PROPOSE_REQUEST.true at c.requires in
     omega arith
+
+pub numbers_with-requires-then-kind-eq-PROPOSE_REQUEST : goal.numbers_with-requires-then-kind-eq-PROPOSE_REQUEST
+unfolding kind_length numbers_in more_of value_in numbers_at total offset_in
+numbers_with-requires-then-kind-eq-PROPOSE_REQUEST c =
+    search rules
 
 pub returns-then-kind-eq-PROPOSE_REQUEST : goal.returns-then-kind-eq-PROPOSE_REQUEST
 unfolding kind_length numbers_in more_of value_in numbers_at total offset_in
@@ -58,6 +73,11 @@ byte-requires-then-kind-eq-LEARN c =
     rw c.if-kind-eq-LEARN.true at c.requires in
     omega arith
 
+pub numbers_with-requires-then-kind-eq-LEARN : goal.numbers_with-requires-then-kind-eq-LEARN
+unfolding kind_length numbers_in more_of value_in numbers_at total offset_in
+numbers_with-requires-then-kind-eq-LEARN c =
+    search rules
+
 pub returns-then-kind-eq-LEARN : goal.returns-then-kind-eq-LEARN
 unfolding kind_length numbers_in more_of value_in numbers_at total offset_in
 returns-then-kind-eq-LEARN c =
@@ -68,6 +88,11 @@ returns-then-kind-eq-LEARN c =
       c.head_at-head.ensures,
       c.if-kind-eq-LEARN.true,
     )
+
+pub numbers_with-requires-2 : goal.numbers_with-requires-2
+unfolding kind_length numbers_in more_of value_in numbers_at total offset_in
+numbers_with-requires-2 c =
+    search rules
 
 pub returns : goal.returns
 unfolding kind_length numbers_in more_of value_in numbers_at total offset_in

@@ -1,6 +1,5 @@
 -- `party_at`: the target of a response, the sender of any other message.
 use Rattle.layout.specs.Layout.{more_of, offset_in}
-use borrow.Author.Rules.{rules}
 use Rattle.layout.proofs.party_at.Goals as goal
 
 pub returns-then-is_response : goal.returns-then-is_response

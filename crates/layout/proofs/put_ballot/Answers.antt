@@ -1,6 +1,5 @@
 -- `put_ballot` stores a tick of 8 bytes and a host of 1; two stores in a row are one (`sets_two`).
 use Rattle.wire.proofs.Laws.{sets_two}
-use borrow.Author.Rules.{rules}
 use Rattle.layout.proofs.put_ballot.Goals as goal
 
 pub returns : goal.returns

@@ -4,6 +4,26 @@ use Rattle.layout.specs.Layout.{kind_length, bytes_of}
 use borrow.Author.Rules.{rules}
 use Rattle.layout.proofs.put_first.Goals as goal
 
+pub put_route-requires : goal.put_route-requires
+unfolding le packed bytes_of kind_length total
+put_route-requires c =
+    search rules
+
+pub put_ballot-requires : goal.put_ballot-requires
+unfolding le packed bytes_of kind_length total
+put_ballot-requires c =
+    search rules
+
+pub put_more-requires : goal.put_more-requires
+unfolding le packed bytes_of kind_length total
+put_more-requires c =
+    search rules
+
+pub shape_of-out : goal.shape_of-out
+unfolding le packed bytes_of kind_length total
+shape_of-out c =
+    search rules
+
 pub returns : goal.returns
 unfolding le packed bytes_of kind_length total
 returns c =

@@ -1,25 +1,12 @@
 -- `put_more` stores the fields after the head. The length tells the kind, as far as its fields go
 -- (`no_more`, `lease_more`, `value_more`).
 -- what the two tests leave of the kind's length
-use mathlib.Core.Path.{◌≡◌, sym, ◌∙◌}
+use mathlib.Core.Path.{sym, ◌∙◌}
 use native.Mathlib.Omega.{arith}
 use Rattle.wire.specs.Wire.{le, packed}
-use Rattle.layout.specs.Layout.{more_of, kind_length}
-use Rattle.layout.specs.Parts.{head_length, most_length}
+use Rattle.layout.specs.Layout.{more_of}
 use Rattle.layout.proofs.Laws.{no_more, lease_more, longer, value_more}
-use borrow.Author.Rules.{rules}
 use Rattle.layout.proofs.put_more.Goals as goal
-use Rattle.layout.proofs.put_more.Goals.{Else-len-eq-LEASE_LENGTH}
-
-apart_head : (c : Else-len-eq-LEASE_LENGTH) →
-    let a = c.args in
-    kind_length a.f.kind ≡ head_length → ⊥
-apart_head c e = c.if-len-eq-HEAD_LENGTH.false (c.requires.long ∙ e)
-
-apart_most : (c : Else-len-eq-LEASE_LENGTH) →
-    let a = c.args in
-    kind_length a.f.kind ≡ most_length → ⊥
-apart_most c e = c.if-len-eq-LEASE_LENGTH.false (c.requires.long ∙ e)
 
 pub returns-then-len-eq-HEAD_LENGTH : goal.returns-then-len-eq-HEAD_LENGTH
 unfolding more_of le packed
@@ -49,14 +36,14 @@ pub put_value-requires-2 : goal.put_value-requires-2
 unfolding more_of le packed
 put_value-requires-2 c =
     let p = c.requires in
-    omega (arith, longer _ (apart_head c.before.before), p.long, p.room)
+    omega (arith, longer _ (λ e. c.if-len-eq-HEAD_LENGTH.false (c.requires.long ∙ e)), p.long, p.room)
 
 pub returns : goal.returns
 unfolding more_of le packed
 returns c =
-    let d = c.before.before.before.before.before in
     rw (
       c.put_value-2.ensures,
       c.value_end.ensures,
-      value_more d.args.f (apart_head d) (apart_most d),
+      value_more c.args.f (λ e. c.if-len-eq-HEAD_LENGTH.false (c.requires.long ∙ e))
+          (λ e. c.if-len-eq-LEASE_LENGTH.false (c.requires.long ∙ e)),
     )

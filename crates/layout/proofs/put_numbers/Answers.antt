@@ -5,14 +5,13 @@ use lib.ListN.{length}
 use Rattle.base.proofs.Stores.{sets_part}
 use Rattle.layout.specs.Layout.{bytes_of}
 use Rattle.layout.proofs.Laws.{bytes_length}
-use borrow.Author.Rules.{rules}
 use Rattle.layout.proofs.put_numbers.Goals as goal
 
 pub returns : goal.returns
 returns c =
     let a = c.args in
     let p = c.requires in
-    let k : a.at + length (bytes_of a.f) ≤ length a.out-1.now =
+    let k : a.at + length (bytes_of a.f) ≤ length a.out.now =
     omega (arith, bytes_length a.f) in
     rw c.put_first.ensures
-    (sets_part a.out-1.now a.at (bytes_of a.f) k)
+    (sets_part a.out.now a.at (bytes_of a.f) k)

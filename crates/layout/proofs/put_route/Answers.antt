@@ -1,6 +1,5 @@
 -- `put_route` stores length, kind, sender and target: four stores, each where the last one ended.
 use Rattle.wire.specs.Wire.{le, packed}
-use borrow.Author.Rules.{rules}
 use Rattle.layout.proofs.put_route.Goals as goal
 
 pub returns : goal.returns

@@ -1,6 +1,5 @@
 -- `put_value` stores an owner of 1 byte and an end of 8; two stores in a row are one (`sets_two`).
 use Rattle.wire.proofs.Laws.{sets_two}
-use borrow.Author.Rules.{rules}
 use Rattle.layout.proofs.put_value.Goals as goal
 
 pub returns : goal.returns

@@ -4,7 +4,6 @@ use borrow.Author.Tests.{le-leb, lt-leb}
 use Rattle.base.specs.Refusals.{fails_at}
 use Rattle.message.specs.Message.{last_tick, last_end}
 use Rattle.layout.specs.Layout.{more_of, offset_in}
-use borrow.Author.Rules.{rules}
 use Rattle.layout.proofs.tick_fault_at.Goals as goal
 
 pub returns-then-f-gt-LAST_TICK : goal.returns-then-f-gt-LAST_TICK
