@@ -399,10 +399,10 @@ module _ (s : Settings) (h : Host) (i : HostIn s h) where
         promised = rw v.0 (promised_ok_lem s.n m.ballot b);
         accepted =
             rw v.1
-            (kept_lease s.n (R.freed_lease m h.state.accepted) held.accepted);
+            (kept_lease s.n (R.freed_lease_lem m h.state.accepted) held.accepted);
         last = held.last;
         round = held.round;
-        named = kept_holder s.n (R.freed_holder m h.state.named) held.named;
+        named = kept_holder s.n (R.freed_holder_lem m h.state.named) held.named;
       }))
 
 -- ---- every step, refused or done
