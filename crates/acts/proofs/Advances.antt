@@ -6,7 +6,6 @@ use mathlib.Core.List.{List, [], ◌∷◌, map}
 use Prim.Native.Nat.{ℕ, zero, suc, ◌+◌, ◌-◌, ◌≤◌, ◌<◌}
 use native.Mathlib.Nat.{le_refl}
 use native.Mathlib.Omega.{arith}
-use native.Mathlib.Numerals.{add-one}
 use native.Mathlib.Decide.{ℕ_discrete}
 use lib.Dec.{ltb, leb, eqb}
 use lib.ListN.{length, get_or, set, length-set}
@@ -21,10 +20,10 @@ use Rattle.message.specs.Message.{last_tick}
 use Rattle.host.specs.declared.Host.{Host}
 use Rattle.host.specs.Steps.{host_ok, advance_refusal, advanced_host}
 use Rattle.places.specs.Places.{blank_host, each_host}
-use Rattle.places.specs.Parts.{clock_with, clock_of, Mirrors}
+use Rattle.places.specs.Parts.{clock_with}
 use Rattle.places.proofs.PlaceLimits.{clock_at}
 use Rattle.places.proofs.Each.{each_above, each_next}
-use Rattle.places.proofs.Walks.{Span, span_none, span_next, span_same, span_clocks}
+use Rattle.places.proofs.Walks.{Span, span_same, span_clocks}
 use Rattle.cell.specs.declared.Cell.{Cell}
 use Rattle.cell.specs.declared.Event.{Event}
 use Rattle.cell.specs.declared.Event.TheVariants.{AdvanceAll, AdvanceOne, Start, Deliver, Lose}
@@ -36,9 +35,8 @@ use Rattle.cell.specs.Claims.{Sized}
 use Rattle.cell.proofs.Hosts.{all_passed, by_advances}
 use Rattle.cell.proofs.CellLimits.{cell_in, host_of_lem, n_of}
 use Rattle.cell.proofs.Looked.{NotFull, none_full, then_full}
-use Rattle.acts.specs.Parts.{ticks_of, far_tick, clock_by, clock_after, ClocksIn, clocks_by}
-use Rattle.acts.specs.Parts.{over_first, earliest, latest, moving_from, all_answer, one_answer}
-use Rattle.acts.specs.Parts.{changed_from}
+use Rattle.acts.specs.Parts.{ticks_of, far_tick, watched_by, clock_by, clock_after, moving_from}
+use Rattle.acts.specs.Parts.{all_answer, one_answer, changed_from}
 
 -- ---- hosts, one after the other
 
@@ -76,7 +74,7 @@ changed_each n f hs b =
 
 -- ---- clocks
 
--- the clocks of a cell, as an event leaves them
+-- the clocks that the loop looks at
 abbrev pub clocks_after : Cell → Event → ℕ → ℕ
 clocks_after c e k = clock_after e k (host_at c k).clock
 
@@ -85,36 +83,32 @@ clock_moved : (e : Event) (g clock : ℕ) → ticks_of e ≤ last_tick
 unfolding clock_after
 clock_moved e g clock l = rw (le-leb (ticks_of e) last_tick l)
 
--- none goes up by more than the ticks
-clock_most : (e : Event) (g clock : ℕ) → clock_by e g clock ≤ clock + ticks_of e
+-- no more than n are looked at, and none goes up by more than the ticks
+watches : (e : Event) (n g clock : ℕ) → (watched_by e n ≤ n)
+    × (clock_by e g clock ≤ clock + ticks_of e)
 unfolding clock_with
-clock_most (AdvanceAll d) g clock = omega arith
-clock_most (AdvanceOne h d) g clock =
-    by_test (λ (k : ℕ). k ≤ clock + d) (eqb g h) (clock + d) clock (λ _. omega arith)
-    (λ _. omega arith)
-clock_most (Start h d) g clock = omega arith
-clock_most (Deliver i) g clock = omega arith
-clock_most (Lose i) g clock = omega arith
-clock_most (Repeat i) g clock = omega arith
-clock_most (Restart h) g clock = omega arith
-clock_most (Release h) g clock = omega arith
+watches (AdvanceAll d) n g clock = (omega arith, omega arith)
+watches (AdvanceOne h d) n g clock = (
+  omega arith,
+  by_test (λ (k : ℕ). k ≤ clock + d) (eqb g h) (clock + d) clock (λ _. omega arith)
+      (λ _. omega arith),
+)
+watches (Start h d) n g clock = (omega arith, omega arith)
+watches (Deliver i) n g clock = (omega arith, omega arith)
+watches (Lose i) n g clock = (omega arith, omega arith)
+watches (Repeat i) n g clock = (omega arith, omega arith)
+watches (Restart h) n g clock = (omega arith, omega arith)
+watches (Release h) n g clock = (omega arith, omega arith)
 
-clock_far : (e : Event) (g clock : ℕ) → clock ≤ last_tick → clock_after e g clock ≤ far_tick
+pub watched_most : (e : Event) (n : ℕ) → watched_by e n ≤ n
+watched_most e n = (watches e n 0 0).0
+
+pub clock_far : (e : Event) (g clock : ℕ) → clock ≤ last_tick → clock_after e g clock ≤ far_tick
 unfolding clock_after last_tick
 clock_far e g clock b =
     by_test (λ (k : ℕ). k ≤ far_tick) (leb (ticks_of e) last_tick) (clock_by e g clock) clock
-    (λ t. omega (arith, b, leb-true (ticks_of e) last_tick t, clock_most e g clock))
+    (λ t. omega (arith, b, leb-true (ticks_of e) last_tick t, (watches e 0 g clock).1))
     (λ _. omega (arith, b))
-
--- the earliest and the latest are the span
-range_span : (f : ℕ → ℕ) (n : ℕ) → ((k : ℕ) → k < n → f k ≤ far_tick)
-    → Span far_tick f n (earliest f n) (latest f n)
-unfolding over_first
-range_span f zero b = span_none far_tick f
-range_span f (suc n) b =
-    rw (add-one n) at
-    (span_next far_tick f n _ _ (λ _. b n (omega arith))
-    (range_span f n (λ k q. b k (omega (arith, q)))))
 
 -- ---- 15, by one test or by several
 
@@ -179,25 +173,6 @@ module _ (c : Cell) (z : Sized c) (o : cell_ok c ≡ true) where
   Room e past =
       (ticks_of e ≡ 0 → ⊥)
       × ((k : ℕ) → moving_from e ≤ k → k < past → clock k + ticks_of e ≤ last_tick)
-
-  module _ {clocks : List ℕ} (m : Mirrors clock_of c.hosts clocks) where
-    -- those that are lent are within their limits
-    pub clocks_few : ClocksIn n clocks
-    clocks_few =
-        record {
-          few = (n_of c o).few;
-          many = m.many;
-          early = λ k b. rw (m.each k (omega (arith, b, (n_of c o).few))) (host_of_lem c k o b).clock;
-        }
-
-    -- and are those of the cell
-    pub range_is : (e : Event)
-        → Span far_tick (clocks_after c e) n (earliest (clocks_by e clocks) n)
-        (latest (clocks_by e clocks) n)
-    range_is e =
-        span_same far_tick (clocks_by e clocks) (clocks_after c e) n _ _
-        (λ k b. ap (clock_after e k) (m.each k (omega (arith, b, (n_of c o).few))))
-        (range_span (clocks_by e clocks) n (λ k b. clock_far e k _ (clocks_few.early k b)))
 
   -- 15 of a host
   own_room : (d k : ℕ) → k < n

@@ -1,3 +1,2 @@
--- The lines of a listing, and their text; Parts, names as bytes that are lent, needs no belief.
+-- The lines of a listing, and their text.
 pub mod Lines
-pub mod Parts

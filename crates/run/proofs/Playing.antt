@@ -14,32 +14,25 @@ use Rattle.base.specs.Refusals.{done}
 use Rattle.text.specs.Parts.{Put}
 use Rattle.text.proofs.Laws.{Todo, todo_begin, todo_step, todo_end, put_length}
 use Rattle.state.specs.declared.Settings.{Settings}
-use Rattle.state.specs.StateLimits.{named_ok}
-use Rattle.state.proofs.StateLimits.{lease_in, state_in}
 use Rattle.host.specs.declared.Host.{Host}
-use Rattle.places.specs.Parts.{Mirrors}
 use Rattle.slots.specs.declared.Slot.{Slot}
 use Rattle.cell.specs.declared.Cell.{Cell}
 use Rattle.cell.specs.declared.Event.{Event}
 use Rattle.cell.specs.declared.Answered.{Answered}
 use Rattle.cell.specs.Events.{answered_with, cell_of, event_of}
 use Rattle.cell.specs.Runs.{answers}
-use Rattle.cell.specs.CellLimits.{host_at}
 use Rattle.cell.specs.Claims.{Sound}
-use Rattle.cell.proofs.CellLimits.{n_of, host_of_lem}
 use Rattle.cell.proofs.StaysWithin.{kept_event}
 use Rattle.record.specs.declared.Record.{Record}
 use Rattle.record.specs.Record.{kind_of, record_at}
 use Rattle.record.specs.contracts.Record as R
 use Rattle.record.proofs.Laws.{record_next}
-use Rattle.lines.specs.Lines.{event, names_from, names_text, counts, line_text, text_of}
-use Rattle.lines.specs.Parts.{name_of, bytes_text}
-use Rattle.lines.proofs.Laws.{name_text_lem, names_text_lem}
+use Rattle.lines.specs.Lines.{event, names_from, counts, line_text, text_of}
 use Rattle.listing.specs.declared.Walk.{Walk}
 use Rattle.listing.specs.Listing.{script_from, settings_length, longest_run, events_of, names_of}
 use Rattle.listing.specs.Listing.{event_lines}
 use Rattle.listing.specs.Listing.{stop_lines, zeros, others}
-use Rattle.listing.specs.Parts.{walk_from, walked_to, LinePut, last_lines}
+use Rattle.listing.specs.Parts.{walk_from, walked_to, last_lines}
 use Rattle.listing.proofs.Counting.{done_most, done_zero, done_other, done_both}
 use Rattle.listing.proofs.Records.{script_next}
 use Rattle.run.specs.Parts.{script_after, events_after, answered_after, ahead}
@@ -103,23 +96,6 @@ going_first c first run out from s =
       todo = todo_begin _ _ _;
     }
 
--- names as bytes have the text of the names, where owners are below n
-names_shown : (c : Cell) → Sound c → (names : List ℕ) → Mirrors name_of c.hosts names
-    → bytes_text names c.settings.n 0 ≡ names_text (names_from c.hosts c.settings.n 0)
-unfolding named_ok
-names_shown c (z, o) names m =
-    let n = c.settings.n in
-    names_text_lem names c.hosts n 0
-    (λ h _ q.
-    let b : h < n = omega (arith, q) in
-    let i = host_of_lem c h o b in
-    let s = state_in c.settings (host_at c h).number (host_at c h).state i.state in
-    rw (m.each h (omega (arith, b, (n_of c o).few)))
-    (name_text_lem (host_at c h).state.named
-    (λ k e.
-    let owner = (lease_in n k.ballot k.owner k.end.0 (rw e at s.named)).owner in
-    omega (arith, owner, (n_of c o).few))))
-
 -- an event's turn: its line is written, and the next record read
 module _ {c₀ : Cell} {first : Record} {run out₀ : List ℕ} {from : ℕ} {s : Settings}
     {hosts : List Host} {slots : List Slot} {r : Record} {out : List ℕ} {w : Walk}
@@ -150,7 +126,7 @@ module _ {c₀ : Cell} {first : Record} {run out₀ : List ℕ} {from : ℕ} {s 
     pub going_room : from + 10 * ahead run first ≤ length out₀ → w.pos + 50 ≤ length out
     going_room l = omega (arith, l, g.near, g.same, ahead_is)
 
-    going_turn : (hosts' : List Host) (slots' : List Slot) (out' : List ℕ)
+    pub going_turn : (hosts' : List Host) (slots' : List Slot) (out' : List ℕ)
         (answer looked pos : ℕ) (r' : Record)
         → answered_with answer looked (cell_with s hosts' slots') ≡ event_of c e
         → Put out w.pos
@@ -198,21 +174,6 @@ module _ {c₀ : Cell} {first : Record} {run out₀ : List ℕ} {from : ℕ} {s 
               ∙ rw (done_both w.applied w.refused answer))
               t;
         })
-
-    -- its line, written with the names as bytes
-    pub going_line : (hosts' : List Host) (slots' : List Slot) (out' names : List ℕ)
-        (answer looked : ℕ) (w' : Walk) (r' : Record)
-        → answered_with answer looked (cell_with s hosts' slots') ≡ event_of c e
-        → Mirrors name_of hosts' names → LinePut w out e answer looked next names s.n w' out'
-        → r' ≡ record_at run next
-        → Going c₀ first run out₀ from (cell_with s hosts' slots') r' out' w'
-    unfolding line_text
-    going_line hosts' slots' out' names answer looked w' r' q m l k =
-        let c' = cell_with s hosts' slots' in
-        let sound : Sound c' = rw (ap cell_of q) (kept_event c e g.sound) in
-        rw l.walk
-        (going_turn hosts' slots' out' answer looked w'.pos r' q
-        (rw (← names_shown c' sound names m) l.put) l.short k)
 
 -- what the `else` of a `let .. else` knows of a record: the number of its variant
 abbrev pub NoEvent : Record → Type 0

@@ -6,8 +6,8 @@ ghost use Rattle.std.specs.Prelude.{◌≡◌};
 ghost use Rattle.cell.specs.Events.{cell_of, event_of};
 ghost use Rattle.run.specs.Parts.{Begins, Plays};
 
-use acts::Way;
-use base::{DONE, REFUSED_CELL, REFUSED_SLOT};
+use acts::{FAR_TICK, Way};
+use base::{DONE, REFUSED_CELL};
 use cell::{Answered, Event};
 use host::{Host, Sent};
 use listing::Walk;
@@ -27,20 +27,18 @@ pub struct Played {
 
 // The events of a run, from its first record on, with a line for each. The cell is handed to no
 // function, since that would copy it: hosts and slots are locals of this loop, what an event does
-// is found from small values, and where what it sends is to go over marks of the slots. Clocks and
-// names are kept as numbers beside the hosts, to be lent. Before the last refusal nothing is stored
-// but the host that steps, beside the others.
+// is found from small values, and where what it sends is to go over marks of the slots. Before the
+// last refusal nothing is stored but the host that steps, beside the others.
 pub fn play(opened: Answered, first: Record, run: &[u8], out: &mut [u8], from: usize) -> Played
     requires { Begins (cell_of opened) first run.now out.old from }
     ensures { Plays (cell_of opened) first run.now out.old from result
         out.new }
 {
     let s = opened.settings;
+    let n = s.n as usize;
     let mut hosts = opened.hosts;
     let mut slots = opened.slots;
     let mut pending = opened.hosts;
-    let mut clocks = places::clocks_of(hosts);
-    let mut names = lines::names_of(hosts);
     let mut marks = placing::marks_of(slots);
     let mut filled: [usize; 9] = [0; 9];
     let mut to: [u8; 9] = [0; 9];
@@ -56,20 +54,34 @@ pub fn play(opened: Answered, first: Record, run: &[u8], out: &mut [u8], from: u
                 walk: w,
             };
         };
+        // The earliest and the latest clock after an advance.
+        let watched = acts::watched_by(e, n);
+        let mut high: u64 = 0;
+        let mut low = FAR_TICK;
+        let mut g: usize = 0;
+        while g < watched {
+            let host = hosts[g];
+            let clock = acts::clock_after(e, g, host.clock);
+            high = places::later_of(high, clock);
+            low = places::earlier_of(low, clock);
+            g += 1;
+        }
         let i = acts::slot_in(e);
-        let who = acts::place_in(e, slots[i], s.n);
-        // A delivery is refused by 12 alone, before 13 is asked.
-        let mut found = acts::unsent(REFUSED_SLOT, 0);
+        let about = slots[i];
+        let who = acts::place_in(e, about, s.n);
+        let mut found = acts::found_with(DONE, Sent::Nothing, 0);
         // The arms read the slot again: read once for all, its copy would cost every event.
         match acts::way_of(e) {
             Way::Quiet => {
-                found = acts::quiet_of(s, e, slots[i], &clocks);
+                let held = slots[i];
+                found = acts::quiet_of(s, e, held, low, high);
             }
             Way::Deliver(slot) => {
                 let actor = hosts[who];
                 let held = slots[i];
                 let content = acts::content_in(slot, held);
                 let step = acts::deliver_step(s, actor, content);
+                found = acts::found_with(step.answer, Sent::Nothing, 0);
                 if step.answer == DONE {
                     let after = step.host;
                     pending[who] = after;
@@ -78,7 +90,8 @@ pub fn play(opened: Answered, first: Record, run: &[u8], out: &mut [u8], from: u
                 }
             }
             Way::Step(number) => {
-                let step = acts::host_step(s, e, number, hosts[who]);
+                let actor = hosts[who];
+                let step = acts::host_step(s, e, number, actor);
                 let after = step.host;
                 pending[who] = after;
                 let sent = step.sent;
@@ -99,16 +112,12 @@ pub fn play(opened: Answered, first: Record, run: &[u8], out: &mut [u8], from: u
         let answer = placed.answer;
         let mut k = acts::moving_from(e);
         while k < found.moving {
-            let moved = acts::moved_by(e, hosts[k]);
-            clocks[k] = moved.clock;
-            names[k] = lines::name_of(moved);
-            hosts[k] = moved;
+            let host = hosts[k];
+            hosts[k] = acts::moved_by(e, host);
             k += 1;
         }
         if (answer == DONE) & acts::steps(e) {
             let after = pending[who];
-            clocks[who] = after.clock;
-            names[who] = lines::name_of(after);
             hosts[who] = after;
         }
         if (answer == DONE) & frees {
@@ -127,7 +136,15 @@ pub fn play(opened: Answered, first: Record, run: &[u8], out: &mut [u8], from: u
                 f += 1;
             }
         }
-        w = listing::put_line(out, w, e, answer, placed.looked, next, &names, s.n);
+        let mut end = listing::put_head(out, w, e, answer);
+        let mut q: usize = 0;
+        while q < n {
+            let host = hosts[q];
+            end = lines::put_name_of(out, end, host);
+            q += 1;
+        }
+        end = text::put_byte(out, end, b'\n');
+        w = listing::walked(w, answer, placed.looked, next, end);
         r = reader::read_at(run, next);
     }
 }

@@ -14,6 +14,13 @@ quiet_of_spec =
     (λ c κs. search rules)
     (λ c. search rules)
     (λ c κs. search rules)
+    (λ c κs. search rules)
+    (λ c. search rules)
+    (λ c κs. search rules)
+    (λ c. search rules)
+    (λ c. search rules)
+    (λ c κs. search rules)
+    (λ c κs. search rules)
     (λ c. search rules)
     (λ c κs. search rules)
     (λ c κs. search rules)
@@ -22,7 +29,7 @@ quiet_of_spec =
     (λ c κs. search rules)
     (λ c κs.
     rw c.content_in-2.ensures
-    (rw c.before.before.e4.given.1 at c.before.before.before.before.requires.1))
+    (rw c.before.before.e4.given.1 at c.before.before.before.before.requires))
     (λ c. search rules)
     (λ c κs. search rules)
     (λ c. search rules)
@@ -31,12 +38,26 @@ quiet_of_spec =
     (λ c κs. search rules)
     (λ c. search rules)
     (λ c κs. search rules)
-    (λ c. rw (c.advance_all.ensures, c.before.before.e.given.1))
-    (λ c. rw (c.advance_one.ensures, c.before.before.e2.given.1))
+    (λ c.
+    let k = c.before.before.before in
+    rw (
+      c.unsent.ensures,
+      c.before.moving_with.ensures,
+      k.all_answer.ensures,
+      k.before.before.e.given.1,
+    ))
     (λ c.
     let k = c.before.before in
     rw (
-      c.unsent.ensures,
+      c.unsent2.ensures,
+      c.before.moving_with-2.ensures,
+      k.one_answer.ensures,
+      k.before.before.e2.given.1,
+    ))
+    (λ c.
+    let k = c.before.before in
+    rw (
+      c.unsent3.ensures,
       c.before.slot_answer.ensures,
       k.content_in.ensures,
       k.before.before.e3.given.1,
@@ -44,7 +65,7 @@ quiet_of_spec =
     (λ c.
     let k = c.before in
     rw (c.repeat_of.ensures, k.content_in-2.ensures, k.before.before.e4.given.1))
-    (λ c. rw (c.unsent2.ensures, c.before.enum_told.given.1))
-    (λ c. rw (c.unsent3.ensures, c.before.enum-told2.given.1))
-    (λ c. rw (c.unsent4.ensures, c.before.enum-told3.given.1))
-    (λ c. rw (c.unsent5.ensures, c.before.enum-told4.given.1)))
+    (λ c. rw (c.unsent4.ensures, c.before.enum_told.given.1))
+    (λ c. rw (c.unsent5.ensures, c.before.enum-told2.given.1))
+    (λ c. rw (c.unsent6.ensures, c.before.enum-told3.given.1))
+    (λ c. rw (c.unsent7.ensures, c.before.enum-told4.given.1)))

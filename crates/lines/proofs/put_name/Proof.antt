@@ -1,4 +1,5 @@
--- `put_name` puts a space, then the name.
+-- `put_name` puts a space, then whom a host names.
+use native.Mathlib.Omega.{arith}
 use borrow.Author.Rules.{rules}
 use Rattle.text.proofs.Laws.{put_then}
 use Rattle.lines.proofs.put_name.Statement.{statement}
@@ -13,4 +14,6 @@ put_name_spec =
     (λ c. search rules)
     (λ c.
     let name = c.before.before in
-    put_then name.before.before.before.before.put_byte.ensures name.put_byte-2.ensures))
+    let p = name.before.before.before.before.put_byte.ensures in
+    let q = name.put_holder.ensures in
+    (put_then p q.0, omega (arith, p.past, q.1))))
