@@ -10,40 +10,38 @@ use Rattle.text.proofs.Laws.{put_then, decimal_most}
 use Rattle.lines.specs.Lines.{event_head}
 use Rattle.lines.proofs.Laws.{most_8}
 use Rattle.lines.proofs.put_event_head.Goals as goal
-use Rattle.lines.proofs.put_event_head.Goals.{After-put_decimal-a, After-put_decimal-arg-1, After-put_spaced-arg-1, After-put_spaced-arg-2-1, After-put_spaced-b}
-
-abbrev place : After-put_spaced-arg-1 → After-put_decimal-a
-place c = c.before.before.before
-
-abbrev kind : After-put_spaced-arg-2-1 → After-put_spaced-b
-kind c = c.before.before.before
-
-long : (c : After-put_decimal-arg-1) →
-    let a = c.args in
-    (length (decimal a.place) ≤ 5)
-    × ((length (decimal a.kind) ≤ 3) × (length (decimal a.answer) ≤ 3))
-long c =
-    let small = c.requires.0 in (
-      decimal_most 4 _ small.0,
-      (decimal_most 2 _ small.1, most_8 _ c.ranges.answer.fits),
-    )
 
 pub put_decimal-a-requires : goal.put_decimal-a-requires
 unfolding event_head
 put_decimal-a-requires c =
-    let l = long c in
+    let l = (let x : let a = c.args in
+    (length (decimal a.place) ≤ 5)
+    × ((length (decimal a.kind) ≤ 3) × (length (decimal a.answer) ≤ 3)) = let small = c.requires.0 in (
+      decimal_most 4 _ small.0,
+      (decimal_most 2 _ small.1, most_8 _ c.ranges.answer.fits),
+    ) in x) in
     omega arith
 
 pub put_spaced-b-requires : goal.put_spaced-b-requires
 unfolding event_head
 put_spaced-b-requires c =
-    let l = long c.before.before.before.before.before in
+    let l = (let x : let a = c.args in
+    (length (decimal a.place) ≤ 5)
+    × ((length (decimal a.kind) ≤ 3) × (length (decimal a.answer) ≤ 3)) = let small = c.requires.0 in (
+      decimal_most 4 _ small.0,
+      (decimal_most 2 _ small.1, most_8 _ c.ranges.answer.fits),
+    ) in x) in
     omega arith
 
 pub put_spaced-requires : goal.put_spaced-requires
 unfolding event_head
 put_spaced-requires c =
-    let l = long c.before.before.before.before.before.before.before.before.before in
+    let l = (let x : let a = c.args in
+    (length (decimal a.place) ≤ 5)
+    × ((length (decimal a.kind) ≤ 3) × (length (decimal a.answer) ≤ 3)) = let small = c.requires.0 in (
+      decimal_most 4 _ small.0,
+      (decimal_most 2 _ small.1, most_8 _ c.ranges.answer.fits),
+    ) in x) in
     omega arith
 
 pub shape_of-out : goal.shape_of-out
@@ -54,10 +52,13 @@ shape_of-out c =
 pub returns : goal.returns
 unfolding event_head
 returns c =
-    let k = kind c.before.before.before in
-    let f = place c.before.before.before.before.before.before.before in
-    let l = long c.before.before.before.before.before.before.before.before.before.before.before in
-    let p = f.put_decimal-a.ensures in
-    let q = k.put_spaced-b.ensures in
+    let l = (let x : let a = c.args in
+    (length (decimal a.place) ≤ 5)
+    × ((length (decimal a.kind) ≤ 3) × (length (decimal a.answer) ≤ 3)) = let small = c.requires.0 in (
+      decimal_most 4 _ small.0,
+      (decimal_most 2 _ small.1, most_8 _ c.ranges.answer.fits),
+    ) in x) in
+    let p = c.put_decimal-a.ensures in
+    let q = c.put_spaced-b.ensures in
     let r = c.put_spaced.ensures in
     (put_then p (put_then q r), omega (arith, p.past, q.past, r.past))

@@ -10,36 +10,52 @@ use Rattle.text.specs.Text.{decimal}
 use Rattle.lines.specs.Lines.{name_text}
 use Rattle.lines.proofs.Laws.{most_8}
 use Rattle.lines.proofs.put_holder.Goals as goal
-use Rattle.lines.proofs.put_holder.Goals.{After-struct_known-1, In-Nobody, In-One-2}
 
-dash : (c : In-Nobody) → name_text c.args.m ≡ 45 ∷ []
+pub enum_told-1 : goal.enum_told-1
 unfolding name_text
-dash c = rw c.enum_told.given.1
+enum_told-1 c =
+    search rules
 
-digits : (c : In-One-2)
-    → name_text c.args.m ≡ decimal c.m.given.0.0.owner
+pub put_byte-requires : goal.put_byte-requires
 unfolding name_text
-digits c = rw c.m.given.1
+put_byte-requires c =
+    search rules
 
--- the match that found a holder
-abbrev found : After-struct_known-1 → In-One-2
-found c = c.before.before.before
+pub enum_known-m : goal.enum_known-m
+unfolding name_text
+enum_known-m c =
+    search rules
 
-short : (c : After-struct_known-1) → length (decimal (found c).m.given.0.0.owner) ≤ 3
-short c = most_8 _ (search rules)
+pub overflow_cast-k : goal.overflow_cast-k
+unfolding name_text
+overflow_cast-k c =
+    search rules
 
 pub put_decimal-requires : goal.put_decimal-requires
+unfolding name_text
 put_decimal-requires c =
-    let l = short c in
+    let l = (let x : length (decimal c.in-One.k.owner) ≤ 3 = most_8 _ (search rules) in x) in
     omega arith
 
+pub shape_of-out-in-Nobody : goal.shape_of-out-in-Nobody
+unfolding name_text
+shape_of-out-in-Nobody c =
+    search rules
+
 pub returns-in-Nobody : goal.returns-in-Nobody
+unfolding name_text
 returns-in-Nobody c =
     let p = c.put_byte.ensures in
-    (rw (dash c.before.before.before.before) p, omega (arith, p.past))
+    (rw ((let x : name_text c.args.m ≡ 45 ∷ [] = rw c.in-Nobody.is in x)) p, omega (arith, p.past))
+
+pub shape_of-out-in-One : goal.shape_of-out-in-One
+unfolding name_text
+shape_of-out-in-One c =
+    search rules
 
 pub returns-in-One : goal.returns-in-One
+unfolding name_text
 returns-in-One c =
     let p = c.put_decimal.ensures in
-    let l = short c.before.before.before in
-    (rw (digits c.before.before.before.before.before.before) p, omega (arith, p.past))
+    let l = (let x : length (decimal c.in-One.k.owner) ≤ 3 = most_8 _ (search rules) in x) in
+    (rw ((let x : name_text c.args.m ≡ decimal c.in-One.k.owner = rw c.in-One.is in x)) p, omega (arith, p.past))

@@ -1,6 +1,5 @@
 -- `put_name` puts a space, then whom a host names.
 use native.Mathlib.Omega.{arith}
-use borrow.Author.Rules.{rules}
 use Rattle.text.proofs.Laws.{put_then}
 use Rattle.lines.proofs.put_name.Goals as goal
 

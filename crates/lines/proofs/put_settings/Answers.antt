@@ -10,29 +10,6 @@ use Rattle.text.proofs.Laws.{put_then}
 use Rattle.lines.specs.Lines.{last_of, line_text}
 use Rattle.lines.proofs.Laws.{most_8, most_32, last_64}
 use Rattle.lines.proofs.put_settings.Goals as goal
-use Rattle.lines.proofs.put_settings.Goals.{After-put_decimal-a, After-put_last-arg-1, After-put_spaced-b, After-put_spaced-c, After-struct_known-1, After-struct_known-2-1, After-struct_known-3-1}
-
-abbrev hosts : After-struct_known-2-1 → After-put_decimal-a
-hosts c = c.before.before.before.before
-
-abbrev longest : After-struct_known-3-1 → After-put_spaced-b
-longest c = c.before.before.before.before
-
-abbrev spread : After-put_last-arg-1 → After-put_spaced-c
-spread c = c.before.before.before
-
-long : (c : After-struct_known-1) →
-    let a = c.args in
-    (length (decimal a.s.n) ≤ 3)
-    × ((length (decimal a.s.longest) ≤ 10)
-    × ((length (decimal a.s.spread) ≤ 10) × (length (last_of a.clock) ≤ 22)))
-long c = (
-  most_8 _ (search rules),
-  (
-    most_32 _ (search rules),
-    (most_32 _ (search rules), last_64 _ c.ranges.clock.fits),
-  ),
-)
 
 pub overflow_cast-s : goal.overflow_cast-s
 unfolding line_text
@@ -42,7 +19,16 @@ overflow_cast-s c =
 pub put_decimal-a-requires : goal.put_decimal-a-requires
 unfolding line_text
 put_decimal-a-requires c =
-    let l = long c in
+    let l = (let x : let a = c.args in
+    (length (decimal a.s.n) ≤ 3)
+    × ((length (decimal a.s.longest) ≤ 10)
+    × ((length (decimal a.s.spread) ≤ 10) × (length (last_of a.clock) ≤ 22))) = (
+      most_8 _ (search rules),
+      (
+        most_32 _ (search rules),
+        (most_32 _ (search rules), last_64 _ c.ranges.clock.fits),
+      ),
+    ) in x) in
     omega arith
 
 pub overflow_cast-s-2 : goal.overflow_cast-s-2
@@ -53,7 +39,16 @@ overflow_cast-s-2 c =
 pub put_spaced-b-requires : goal.put_spaced-b-requires
 unfolding line_text
 put_spaced-b-requires c =
-    let l = long c.before.before.before.before.before.before in
+    let l = (let x : let a = c.args in
+    (length (decimal a.s.n) ≤ 3)
+    × ((length (decimal a.s.longest) ≤ 10)
+    × ((length (decimal a.s.spread) ≤ 10) × (length (last_of a.clock) ≤ 22))) = (
+      most_8 _ (search rules),
+      (
+        most_32 _ (search rules),
+        (most_32 _ (search rules), last_64 _ c.ranges.clock.fits),
+      ),
+    ) in x) in
     omega arith
 
 pub overflow_cast-s-3 : goal.overflow_cast-s-3
@@ -64,13 +59,31 @@ overflow_cast-s-3 c =
 pub put_spaced-c-requires : goal.put_spaced-c-requires
 unfolding line_text
 put_spaced-c-requires c =
-    let l = long c.before.before.before.before.before.before.before.before.before.before.before in
+    let l = (let x : let a = c.args in
+    (length (decimal a.s.n) ≤ 3)
+    × ((length (decimal a.s.longest) ≤ 10)
+    × ((length (decimal a.s.spread) ≤ 10) × (length (last_of a.clock) ≤ 22))) = (
+      most_8 _ (search rules),
+      (
+        most_32 _ (search rules),
+        (most_32 _ (search rules), last_64 _ c.ranges.clock.fits),
+      ),
+    ) in x) in
     omega arith
 
 pub put_last-requires : goal.put_last-requires
 unfolding line_text
 put_last-requires c =
-    let l = long c.before.before.before.before.before.before.before.before.before.before.before.before.before.before.before in
+    let l = (let x : let a = c.args in
+    (length (decimal a.s.n) ≤ 3)
+    × ((length (decimal a.s.longest) ≤ 10)
+    × ((length (decimal a.s.spread) ≤ 10) × (length (last_of a.clock) ≤ 22))) = (
+      most_8 _ (search rules),
+      (
+        most_32 _ (search rules),
+        (most_32 _ (search rules), last_64 _ c.ranges.clock.fits),
+      ),
+    ) in x) in
     omega arith
 
 pub shape_of-out : goal.shape_of-out
@@ -81,13 +94,19 @@ shape_of-out c =
 pub returns : goal.returns
 unfolding line_text
 returns c =
-    let s = spread c.before.before.before in
-    let t = longest c.before.before.before.before.before.before.before in
-    let n = hosts c.before.before.before.before.before.before.before.before.before.before.before.before in
-    let l = long c.before.before.before.before.before.before.before.before.before.before.before.before.before.before.before.before.before in
-    let p = n.put_decimal-a.ensures in
-    let q = t.put_spaced-b.ensures in
-    let r = s.put_spaced-c.ensures in
+    let l = (let x : let a = c.args in
+    (length (decimal a.s.n) ≤ 3)
+    × ((length (decimal a.s.longest) ≤ 10)
+    × ((length (decimal a.s.spread) ≤ 10) × (length (last_of a.clock) ≤ 22))) = (
+      most_8 _ (search rules),
+      (
+        most_32 _ (search rules),
+        (most_32 _ (search rules), last_64 _ c.ranges.clock.fits),
+      ),
+    ) in x) in
+    let p = c.put_decimal-a.ensures in
+    let q = c.put_spaced-b.ensures in
+    let r = c.put_spaced-c.ensures in
     let z = c.put_last.ensures in (
       put_then p (put_then q (put_then r z)),
       omega (arith, p.past, q.past, r.past, z.past),

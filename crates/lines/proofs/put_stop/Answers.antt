@@ -10,27 +10,6 @@ use Rattle.text.proofs.Laws.{put_then}
 use Rattle.lines.specs.Lines.{last_of, line_text}
 use Rattle.lines.proofs.Laws.{most_8, most_64, last_64}
 use Rattle.lines.proofs.put_stop.Goals as goal
-use Rattle.lines.proofs.put_stop.Goals.{After-put_last-arg-1, After-put_spaced-arg-1, After-put_spaced-arg-2-1, After-put_spaced-b, After-put_spaced-c, After-put_word-a, Start}
-
-abbrev start : After-put_word-a → Start
-start c = c.before.before.before.before
-
-abbrev word : After-put_spaced-arg-1 → After-put_word-a
-word c = c.before.before.before
-
-abbrev place : After-put_spaced-arg-2-1 → After-put_spaced-b
-place c = c.before.before.before
-
-abbrev number : After-put_last-arg-1 → After-put_spaced-c
-number c = c.before.before.before
-
-long : (c : After-put_word-a) →
-    let a = (start c).args in
-    (length (decimal a.place) ≤ 20)
-    × ((length (decimal a.number) ≤ 3) × (length (last_of a.offset) ≤ 22))
-long c =
-    let f = (start c).ranges in
-    (most_64 _ f.place.fits, (most_8 _ f.number.fits, last_64 _ f.offset.fits))
 
 pub put_word-a-requires : goal.put_word-a-requires
 unfolding line_text
@@ -40,27 +19,46 @@ put_word-a-requires c =
 pub put_spaced-b-requires : goal.put_spaced-b-requires
 unfolding line_text
 put_spaced-b-requires c =
-    search rules
+    let l = (let x : let a = c.args in
+    (length (decimal a.place) ≤ 20)
+    × ((length (decimal a.number) ≤ 3) × (length (last_of a.offset) ≤ 22)) = let f = c.ranges in
+    (most_64 _ f.place.fits, (most_8 _ f.number.fits, last_64 _ f.offset.fits)) in x) in
+    omega arith
 
 pub put_spaced-c-requires : goal.put_spaced-c-requires
 unfolding line_text
 put_spaced-c-requires c =
-    let l = long c.before.before.before.before.before.before.before in
+    let l = (let x : let a = c.args in
+    (length (decimal a.place) ≤ 20)
+    × ((length (decimal a.number) ≤ 3) × (length (last_of a.offset) ≤ 22)) = let f = c.ranges in
+    (most_64 _ f.place.fits, (most_8 _ f.number.fits, last_64 _ f.offset.fits)) in x) in
     omega arith
 
 pub put_last-requires : goal.put_last-requires
 unfolding line_text
 put_last-requires c =
-    let l = long c.before.before.before.before.before.before.before.before.before.before.before in
+    let l = (let x : let a = c.args in
+    (length (decimal a.place) ≤ 20)
+    × ((length (decimal a.number) ≤ 3) × (length (last_of a.offset) ≤ 22)) = let f = c.ranges in
+    (most_64 _ f.place.fits, (most_8 _ f.number.fits, last_64 _ f.offset.fits)) in x) in
     omega arith
 
 pub shape_of-out : goal.shape_of-out
 unfolding line_text
 shape_of-out c =
-    let l = long c.before.before.before.before.before.before.before.before.before.before.before.before.before.before in
-    omega arith
+    search rules
 
 pub returns : goal.returns
 unfolding line_text
 returns c =
-    search rules
+    let l = (let x : let a = c.args in
+    (length (decimal a.place) ≤ 20)
+    × ((length (decimal a.number) ≤ 3) × (length (last_of a.offset) ≤ 22)) = let f = c.ranges in
+    (most_64 _ f.place.fits, (most_8 _ f.number.fits, last_64 _ f.offset.fits)) in x) in
+    let p = c.put_word-a.ensures in
+    let q = c.put_spaced-b.ensures in
+    let r = c.put_spaced-c.ensures in
+    let z = c.put_last.ensures in (
+      put_then p (put_then q (put_then r z)),
+      omega (arith, p.past, q.past, r.past, z.past),
+    )

@@ -10,10 +10,6 @@ use Rattle.record.specs.Record.{widths_of, record_length, event_with}
 use Rattle.record.proofs.Laws.{length_least, after_host, first_value}
 use borrow.Author.Rules.{rules}
 use Rattle.record.proofs.event_at.Goals as goal
-use Rattle.record.proofs.event_at.Goals.{Start}
-
-there : (c : Start) → c.args.at + 4 < length c.args.run.now
-there c = omega (arith, c.requires, length_least c.args.kind)
 
 pub overflow_add-at : goal.overflow_add-at
 unfolding record_length widths_of total numbers_at event_with
@@ -34,7 +30,7 @@ overflow_add-at-in-102 c =
 pub byte-host-requires : goal.byte-host-requires
 unfolding record_length widths_of total numbers_at event_with
 byte-host-requires c =
-    there c.before.before
+    (let x : c.args.at + 4 < length c.args.run.now = omega (arith, c.requires, length_least c.args.kind) in x)
 
 pub overflow_add-at-in-102-2 : goal.overflow_add-at-in-102-2
 unfolding record_length widths_of total numbers_at event_with
@@ -55,7 +51,7 @@ overflow_add-at-in-103 c =
 pub byte-host-requires-in-103 : goal.byte-host-requires-in-103
 unfolding record_length widths_of total numbers_at event_with
 byte-host-requires-in-103 c =
-    there c.before.before
+    (let x : c.args.at + 4 < length c.args.run.now = omega (arith, c.requires, length_least c.args.kind) in x)
 
 pub overflow_add-at-in-103-2 : goal.overflow_add-at-in-103-2
 unfolding record_length widths_of total numbers_at event_with
@@ -81,7 +77,7 @@ overflow_add-at-in-104 c =
 pub byte-requires : goal.byte-requires
 unfolding record_length widths_of total numbers_at event_with
 byte-requires c =
-    there c.before.before
+    (let x : c.args.at + 4 < length c.args.run.now = omega (arith, c.requires, length_least c.args.kind) in x)
 
 pub overflow_add-at-in-105 : goal.overflow_add-at-in-105
 unfolding record_length widths_of total numbers_at event_with
@@ -91,7 +87,7 @@ overflow_add-at-in-105 c =
 pub byte-requires-in-105 : goal.byte-requires-in-105
 unfolding record_length widths_of total numbers_at event_with
 byte-requires-in-105 c =
-    there c.before.before
+    (let x : c.args.at + 4 < length c.args.run.now = omega (arith, c.requires, length_least c.args.kind) in x)
 
 pub overflow_add-at-in-106 : goal.overflow_add-at-in-106
 unfolding record_length widths_of total numbers_at event_with
@@ -101,7 +97,7 @@ overflow_add-at-in-106 c =
 pub byte-requires-in-106 : goal.byte-requires-in-106
 unfolding record_length widths_of total numbers_at event_with
 byte-requires-in-106 c =
-    there c.before.before
+    (let x : c.args.at + 4 < length c.args.run.now = omega (arith, c.requires, length_least c.args.kind) in x)
 
 pub overflow_add-at-in-107 : goal.overflow_add-at-in-107
 unfolding record_length widths_of total numbers_at event_with
@@ -111,7 +107,7 @@ overflow_add-at-in-107 c =
 pub byte-requires-in-107 : goal.byte-requires-in-107
 unfolding record_length widths_of total numbers_at event_with
 byte-requires-in-107 c =
-    there c.before.before
+    (let x : c.args.at + 4 < length c.args.run.now = omega (arith, c.requires, length_least c.args.kind) in x)
 
 pub overflow_add-at-in_default : goal.overflow_add-at-in_default
 unfolding record_length widths_of total numbers_at event_with
@@ -121,7 +117,7 @@ overflow_add-at-in_default c =
 pub byte-requires-in_default : goal.byte-requires-in_default
 unfolding record_length widths_of total numbers_at event_with
 byte-requires-in_default c =
-    there c.before.before
+    (let x : c.args.at + 4 < length c.args.run.now = omega (arith, c.requires, length_least c.args.kind) in x)
 
 pub returns-in-101 : goal.returns-in-101
 unfolding record_length widths_of total numbers_at event_with
@@ -161,7 +157,7 @@ returns-in-107 c =
 pub returns-in_default : goal.returns-in_default
 unfolding event_with
 returns-in_default c =
-    let other = c.in_default.rest in
+    let other = c.in_default.in_default-own.rest in
     let n = ne_eqb _ _ other.0.0.0.0.0.0.1 in
     rw (
       c.byte-in_default.ensures,

@@ -10,12 +10,6 @@ use Rattle.record.specs.Record.{widths_of, first_record}
 use Rattle.record.proofs.Laws.{first_whole}
 use borrow.Author.Rules.{rules}
 use Rattle.record.proofs.first_record.Goals as goal
-use Rattle.record.proofs.first_record.Goals.{In-Whole}
-
-there : (c : In-Whole) →
-    21 ≤ length c.args.run.now
-there c =
-    first_whole _ _ _ (told c.head_at-head.ensures c.enum_told.given.1)
 
 pub head_at-head-requires : goal.head_at-head-requires
 unfolding first_record widths_of numbers_at
@@ -49,18 +43,18 @@ returns-in_default c =
       c.head_fault.ensures,
       c.head_offset.ensures,
       ← c.head_at-head.ensures,
-      c.enum_told-in_default-1.given.1,
+      c.in_default.is,
     )
 
 pub byte-n-requires : goal.byte-n-requires
 unfolding first_record widths_of numbers_at
 byte-n-requires c =
-    omega (arith, there c)
+    omega (arith, (let x : 21 ≤ length c.args.run.now = first_whole _ _ _ (told c.head_at-head.ensures c.in-Whole.is) in x))
 
 pub get-longest-requires : goal.get-longest-requires
 unfolding first_record widths_of numbers_at
 get-longest-requires c =
-    let l = there c.before in (omega arith, omega arith)
+    let l = (let x : 21 ≤ length c.args.run.now = first_whole _ _ _ (told c.head_at-head.ensures c.in-Whole.is) in x) in (omega arith, omega arith)
 
 pub overflow_cast-longest : goal.overflow_cast-longest
 unfolding first_record widths_of numbers_at
@@ -70,7 +64,7 @@ overflow_cast-longest c =
 pub get-spread-requires : goal.get-spread-requires
 unfolding first_record widths_of numbers_at
 get-spread-requires c =
-    let l = there c.before.before in (omega arith, omega arith)
+    let l = (let x : 21 ≤ length c.args.run.now = first_whole _ _ _ (told c.head_at-head.ensures c.in-Whole.is) in x) in (omega arith, omega arith)
 
 pub overflow_cast-spread : goal.overflow_cast-spread
 unfolding first_record widths_of numbers_at
@@ -80,7 +74,7 @@ overflow_cast-spread c =
 pub get-clock-requires : goal.get-clock-requires
 unfolding first_record widths_of numbers_at
 get-clock-requires c =
-    let l = there c.before.before.before in (omega arith, omega arith)
+    let l = (let x : 21 ≤ length c.args.run.now = first_whole _ _ _ (told c.head_at-head.ensures c.in-Whole.is) in x) in (omega arith, omega arith)
 
 pub returns : goal.returns
 unfolding first_record widths_of numbers_at

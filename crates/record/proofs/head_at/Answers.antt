@@ -2,81 +2,19 @@
 -- from each test that is passed to the one before it
 use mathlib.Core.Path.{◌≡◌, sym, ap, ◌∙◌}
 use mathlib.Core.Bool.{true}
-use Prim.Native.Nat.{◌+◌, ◌-◌}
+use Prim.Native.Nat.{◌-◌}
 use native.Mathlib.Omega.{arith}
 use lib.ListN.{length}
 use lib.Dec.{leb}
-use borrow.Author.Tests.{le-leb, lt-leb, not-true, not-false}
+use borrow.Author.Tests.{le-leb, lt-leb}
 use Rattle.base.specs.Refusals.{first_of, tests_in, fails_at}
 use Rattle.base.specs.Lists.{all_of}
 use Rattle.base.proofs.Tests.{told}
 use Rattle.layout.specs.Layout.{offset_in}
-use Rattle.record.specs.declared.Head.{Head}
 use Rattle.record.specs.Record.{is_allowed, record_length, left_at, told_length_at, told_kind_at}
 use Rattle.record.specs.Record.{record_fault, fault_offset, head_of}
 use borrow.Author.Rules.{rules}
 use Rattle.record.proofs.head_at.Goals as goal
-use Rattle.record.proofs.head_at.Goals.{After-get-told, After-record_length-len, Else-left-len, Else-left-lt-FORE_LENGTH, Else-len-told, Else-not-is_allowed, Else-told-len, Start}
-
-abbrev start : Else-left-lt-FORE_LENGTH → Start
-start c = c.before.before.before
-
-abbrev else2 : Else-not-is_allowed → Else-left-lt-FORE_LENGTH
-else2 c = c.before.before.before
-
-abbrev else3 : After-get-told → Else-not-is_allowed
-else3 c = c.before.before
-
--- what each test that is passed tells
-four : (c : Else-left-lt-FORE_LENGTH) → let a = (start c).args in leb 4 (left_at a.run.now a.at) ≡ true
-four c = le-leb _ _ c.if-left-lt-FORE_LENGTH.false
-
-known : (c : Else-not-is_allowed) →
-    let a = (start (else2 c)).args in
-    is_allowed a.first (told_kind_at a.run.now a.at) ≡ true
-known c =
-    let k = c.is_allowed in
-    let e = told k.ensures (c.if-not-is_allowed.false) in
-    rw (← c.get-kind.ensures.0) e
-
--- the told kind's length
-long : (c : After-record_length-len) →
-    let a = (start (else2 c.before)).args in
-    record_length (told_kind_at a.run.now a.at) ≡ c.record_length-len.result
-long c =
-    let k = c.get-kind in
-    sym (c.record_length-len.ensures ∙ ap record_length k.ensures.0)
-
--- the told length is not below that one, and not above it
-not_short : (c : Else-told-len) →
-    let a = (start (else2 (else3 c.before))).args in
-    leb c.record_length-len.result (told_length_at a.run.now a.at) ≡ true
-not_short c = rw (← c.get-told.ensures.0) (le-leb _ _ c.if-told-len.false)
-
-not_long : (c : Else-len-told) →
-    let d = c.before in
-    let a = (start (else2 (else3 d.before))).args in
-    leb (told_length_at a.run.now a.at) d.record_length-len.result ≡ true
-not_long c = rw (← c.get-told.ensures.0) (le-leb _ _ c.if-len-told.false)
-
--- where all are passed: the kind that was read, and the offset past its length
-past : (c : Else-left-len) →
-    let k = c.before.before.before.before in
-    let d = k.before in
-    let a = (start (else2 d)).args in
-    Head.Whole d.get-kind.result (a.at + k.record_length-len.result)
-    ≡ head_of a.first a.run.now a.at
-unfolding head_of record_fault first_of all_of
-past c =
-    rw (
-      four c.before.before.before.before.before.before.before.before,
-      known c.before.before.before.before.before,
-      long c.before.before.before.before,
-      not_short c.before.before,
-      not_long c.before,
-      le-leb _ _ c.if-left-len.false,
-      ← c.get-kind.ensures.0,
-    )
 
 pub returns-then-run-at : goal.returns-then-run-at
 unfolding head_of record_fault fault_offset first_of all_of tests_in fails_at offset_in
@@ -119,7 +57,7 @@ unfolding head_of record_fault fault_offset first_of all_of tests_in fails_at of
 returns-then-not-is_allowed c =
     let k = c.is_allowed in
     rw (
-      four c.before.before.before,
+      (let x : let a = c.args in leb 4 (left_at a.run.now a.at) ≡ true = le-leb _ _ c.if-left-lt-FORE_LENGTH.false in x),
       ← c.get-kind.ensures.0,
       ← k.ensures,
       c.if-not-is_allowed.true,
@@ -143,10 +81,16 @@ get-told-requires c =
 pub returns-then-told-len : goal.returns-then-told-len
 unfolding head_of record_fault fault_offset first_of all_of tests_in fails_at offset_in
 returns-then-told-len c =
+    let k = c.before.before in
     rw (
-      four c.before.before.before.before.before.before,
-      known c.before.before.before,
-      long c.before.before,
+      (let x : let a = c.args in leb 4 (left_at a.run.now a.at) ≡ true = le-leb _ _ c.if-left-lt-FORE_LENGTH.false in x),
+      (let x : let a = c.args in
+          is_allowed a.first (told_kind_at a.run.now a.at) ≡ true = let k = c.is_allowed in
+          let e = told k.ensures (c.if-not-is_allowed.false) in
+          rw (← c.get-kind.ensures.0) e in x),
+      (let x : let a = c.args in
+          record_length (told_kind_at a.run.now a.at) ≡ c.record_length-len.result = let k = c.get-kind in
+          sym (c.record_length-len.ensures ∙ ap record_length k.ensures.0) in x),
       ← c.get-told.ensures.0,
       lt-leb _ _ c.if-told-len.true,
     )
@@ -154,11 +98,18 @@ returns-then-told-len c =
 pub returns-then-len-told : goal.returns-then-len-told
 unfolding head_of record_fault fault_offset first_of all_of tests_in fails_at offset_in
 returns-then-len-told c =
+    let k = c.before.before.before in
     rw (
-      four c.before.before.before.before.before.before.before,
-      known c.before.before.before.before,
-      long c.before.before.before,
-      not_short c.before,
+      (let x : let a = c.args in leb 4 (left_at a.run.now a.at) ≡ true = le-leb _ _ c.if-left-lt-FORE_LENGTH.false in x),
+      (let x : let a = c.args in
+          is_allowed a.first (told_kind_at a.run.now a.at) ≡ true = let k = c.is_allowed in
+          let e = told k.ensures (c.if-not-is_allowed.false) in
+          rw (← c.get-kind.ensures.0) e in x),
+      (let x : let a = c.args in
+          record_length (told_kind_at a.run.now a.at) ≡ c.record_length-len.result = let k = c.get-kind in
+          sym (c.record_length-len.ensures ∙ ap record_length k.ensures.0) in x),
+      (let x : let a = c.args in
+          leb c.record_length-len.result (told_length_at a.run.now a.at) ≡ true = rw (← c.get-told.ensures.0) (le-leb _ _ c.if-told-len.false) in x),
       ← c.get-told.ensures.0,
       lt-leb _ _ c.if-len-told.true,
     )
@@ -166,12 +117,20 @@ returns-then-len-told c =
 pub returns-then-left-len : goal.returns-then-left-len
 unfolding head_of record_fault fault_offset first_of all_of tests_in fails_at offset_in
 returns-then-left-len c =
+    let k = c.before.before.before.before in
     rw (
-      four c.before.before.before.before.before.before.before.before,
-      known c.before.before.before.before.before,
-      long c.before.before.before.before,
-      not_short c.before.before,
-      not_long c.before,
+      (let x : let a = c.args in leb 4 (left_at a.run.now a.at) ≡ true = le-leb _ _ c.if-left-lt-FORE_LENGTH.false in x),
+      (let x : let a = c.args in
+          is_allowed a.first (told_kind_at a.run.now a.at) ≡ true = let k = c.is_allowed in
+          let e = told k.ensures (c.if-not-is_allowed.false) in
+          rw (← c.get-kind.ensures.0) e in x),
+      (let x : let a = c.args in
+          record_length (told_kind_at a.run.now a.at) ≡ c.record_length-len.result = let k = c.get-kind in
+          sym (c.record_length-len.ensures ∙ ap record_length k.ensures.0) in x),
+      (let x : let a = c.args in
+          leb c.record_length-len.result (told_length_at a.run.now a.at) ≡ true = rw (← c.get-told.ensures.0) (le-leb _ _ c.if-told-len.false) in x),
+      (let x : let a = c.args in
+          leb (told_length_at a.run.now a.at) c.record_length-len.result ≡ true = rw (← c.get-told.ensures.0) (le-leb _ _ c.if-len-told.false) in x),
       lt-leb _ _ c.if-left-len.true,
     )
 
@@ -182,4 +141,20 @@ overflow_add-result c =
 
 pub returns : goal.returns
 unfolding head_of record_fault fault_offset first_of all_of tests_in fails_at offset_in
-returns c = (past) c
+returns c =
+    rw (
+      (let x : let a = c.args in leb 4 (left_at a.run.now a.at) ≡ true = le-leb _ _ c.if-left-lt-FORE_LENGTH.false in x),
+      (let x : let a = c.args in
+          is_allowed a.first (told_kind_at a.run.now a.at) ≡ true = let k = c.is_allowed in
+          let e = told k.ensures (c.if-not-is_allowed.false) in
+          rw (← c.get-kind.ensures.0) e in x),
+      (let x : let a = c.args in
+          record_length (told_kind_at a.run.now a.at) ≡ c.record_length-len.result = let k = c.get-kind in
+          sym (c.record_length-len.ensures ∙ ap record_length k.ensures.0) in x),
+      (let x : let a = c.args in
+          leb c.record_length-len.result (told_length_at a.run.now a.at) ≡ true = rw (← c.get-told.ensures.0) (le-leb _ _ c.if-told-len.false) in x),
+      (let x : let a = c.args in
+          leb (told_length_at a.run.now a.at) c.record_length-len.result ≡ true = rw (← c.get-told.ensures.0) (le-leb _ _ c.if-len-told.false) in x),
+      le-leb _ _ c.if-left-len.false,
+      ← c.get-kind.ensures.0,
+    )

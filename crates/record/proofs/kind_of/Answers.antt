@@ -51,34 +51,34 @@ returns-in-AdvanceAll c =
 pub returns-in-AdvanceOne : goal.returns-in-AdvanceOne
 unfolding kind_of
 returns-in-AdvanceOne c =
-    rw c.enum_told-in-AdvanceOne-1.given.1
+    rw c.in-AdvanceOne.is
 
 pub returns-in-Start : goal.returns-in-Start
 unfolding kind_of
 returns-in-Start c =
-    rw c.enum_told-in-Start-1.given.1
+    rw c.in-Start.is
 
 pub returns-in-Deliver : goal.returns-in-Deliver
 unfolding kind_of
 returns-in-Deliver c =
-    rw c.enum_told-in-Deliver-1.given.1
+    rw c.in-Deliver.is
 
 pub returns-in-Lose : goal.returns-in-Lose
 unfolding kind_of
 returns-in-Lose c =
-    rw c.enum_told-in-Lose-1.given.1
+    rw c.in-Lose.is
 
 pub returns-in-Repeat : goal.returns-in-Repeat
 unfolding kind_of
 returns-in-Repeat c =
-    rw c.enum_told-in-Repeat-1.given.1
+    rw c.in-Repeat.is
 
 pub returns-in-Restart : goal.returns-in-Restart
 unfolding kind_of
 returns-in-Restart c =
-    rw c.enum_told-in-Restart-1.given.1
+    rw c.in-Restart.is
 
 pub returns-in-Release : goal.returns-in-Release
 unfolding kind_of
 returns-in-Release c =
-    rw c.enum_told-in-Release-1.given.1
+    rw c.in-Release.is

@@ -5,7 +5,7 @@ use mathlib.Core.Path.{◌≡◌}
 use mathlib.Core.Bool.{true}
 use lib.Dec.{leb}
 use borrow.Author.Rules.{rules}
-use borrow.Author.Tests.{lt-ltb, le-ltb, le-leb, lt-leb, not-true, not-false}
+use borrow.Author.Tests.{lt-ltb, le-ltb, le-leb, lt-leb}
 use Rattle.base.specs.Refusals.{tests_in, fails_at}
 use Rattle.base.proofs.Tests.{told}
 use Rattle.wire.specs.Wire.{total}
@@ -15,21 +15,6 @@ use Rattle.state.specs.StateLimits.{last_longest}
 use Rattle.record.specs.Record.{widths_of, field_offset, opening_offset}
 use Rattle.record.proofs.Laws.{longest_refused, longest_fits}
 use Rattle.record.proofs.opening_offset.Goals as goal
-use Rattle.record.proofs.opening_offset.Goals.{Else-not-cell_fits, Else-s}
-
-hosts : (c : Else-not-cell_fits) → cell_fits c.args.s.n ≡ true
-hosts c =
-    let k = c.cell_fits in
-    told k.ensures (c.if-not-cell_fits.false)
-
-abbrev else1 : Else-s → Else-not-cell_fits
-else1 c = c.before.before.before
-
-longest : (c : Else-s) →
-    let t = (else1 c).args.s.longest in
-    (leb 1 t ≡ true) × (leb t last_longest ≡ true)
-unfolding last_longest
-longest c = longest_fits (else1 c).args.s.longest c.if-s.false
 
 pub cell_fits-requires : goal.cell_fits-requires
 unfolding opening_offset tests_in fails_at field_offset widths_of total last_longest last_tick
@@ -45,20 +30,33 @@ returns-then-not-cell_fits c =
 pub returns-then-s : goal.returns-then-s
 unfolding opening_offset tests_in fails_at field_offset widths_of total last_longest last_tick
 returns-then-s c =
-    rw (hosts c.before.before.before, longest_refused _ _ _ c.if-s.true)
+    rw (
+      (let x : cell_fits c.args.s.n ≡ true = let k = c.cell_fits in
+          told k.ensures (c.if-not-cell_fits.false) in x),
+      longest_refused _ _ _ c.if-s.true,
+    )
 
 pub returns-then-s-2 : goal.returns-then-s-2
 unfolding opening_offset tests_in fails_at field_offset widths_of total last_longest last_tick
 returns-then-s-2 c =
-    let t = longest c.before.before in
-    rw (hosts c.before.before.before.before.before, t.0, t.1, le-ltb _ _ c.if-s-2.true)
+    let t = (let x : let t = c.args.s.longest in
+    (leb 1 t ≡ true) × (leb t last_longest ≡ true) = longest_fits c.args.s.longest c.if-s.false in x) in
+    rw (
+      (let x : cell_fits c.args.s.n ≡ true = let k = c.cell_fits in
+          told k.ensures (c.if-not-cell_fits.false) in x),
+      t.0,
+      t.1,
+      le-ltb _ _ c.if-s-2.true,
+    )
 
 pub returns-then-clock-gt-LAST_TICK : goal.returns-then-clock-gt-LAST_TICK
 unfolding opening_offset tests_in fails_at field_offset widths_of total last_longest last_tick
 returns-then-clock-gt-LAST_TICK c =
-    let t = longest c.before.before.before in
+    let t = (let x : let t = c.args.s.longest in
+    (leb 1 t ≡ true) × (leb t last_longest ≡ true) = longest_fits c.args.s.longest c.if-s.false in x) in
     rw (
-      hosts c.before.before.before.before.before.before,
+      (let x : cell_fits c.args.s.n ≡ true = let k = c.cell_fits in
+          told k.ensures (c.if-not-cell_fits.false) in x),
       t.0,
       t.1,
       lt-ltb _ _ c.if-s-2.false,
@@ -68,9 +66,11 @@ returns-then-clock-gt-LAST_TICK c =
 pub returns : goal.returns
 unfolding opening_offset tests_in fails_at field_offset widths_of total last_longest last_tick
 returns c =
-    let t = longest c.before.before.before in
+    let t = (let x : let t = c.args.s.longest in
+    (leb 1 t ≡ true) × (leb t last_longest ≡ true) = longest_fits c.args.s.longest c.if-s.false in x) in
     rw (
-      hosts c.before.before.before.before.before.before,
+      (let x : cell_fits c.args.s.n ≡ true = let k = c.cell_fits in
+          told k.ensures (c.if-not-cell_fits.false) in x),
       t.0,
       t.1,
       lt-ltb _ _ c.if-s-2.false,
