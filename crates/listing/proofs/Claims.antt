@@ -1,5 +1,5 @@
 -- The claims of specs/Claims.antt, proved. Assumes nothing.
-use mathlib.Core.Path.{◌≡◌, refl, ap, ◌∙◌}
+use mathlib.Core.Path.{◌≡◌, refl, sym, ap, subst, ◌∙◌}
 use Prim.Native.Nat.{ℕ, suc, ◌+◌, ◌≤◌}
 use native.Mathlib.Omega.{arith}
 use mathlib.Core.Bool.{Bool, true, false, cond}
@@ -86,7 +86,8 @@ script_counted g clock c s =
     let xs = answers c es in
     let a : answers_in (event_lines 1 c es ++ (stop_lines s ++ (counts_of xs ∷ []))) ≡ xs =
     answers_events 1 c es _ (answers_end s (zeros xs) (others xs)) in
-    rw a (tt, counts_events xs 1 c es _ (counts_end xs s (counts_of xs) (refl, refl)))
+    subst (λ (ys : List ℕ). All (CountsOf ys) (settings g clock ∷ script_lines c s)) (sym a)
+    (tt, counts_events xs 1 c es _ (counts_end xs s (counts_of xs) (refl, refl)))
 
 opened_counted : (s : List ℕ) (g : Settings) (clock : ℕ) → let ls = opened_lines s g clock in
     All (CountsOf (answers_in ls)) ls
