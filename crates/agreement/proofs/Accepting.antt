@@ -1,10 +1,9 @@
 -- What a propose request leaves at a host that may accept it, once its delivery is done: the lease.
 -- Assumes nothing.
-use mathlib.Core.Path.{◌≡◌, refl, sym, ap, ◌∙◌}
+use mathlib.Core.Path.{◌≡◌, sym, ap, ◌∙◌}
 use mathlib.Core.Bool.{true, false}
-use Prim.Native.Nat.{ℕ, ◌<◌}
+use Prim.Native.Nat.{ℕ}
 use native.Mathlib.Omega.{arith}
-use lib.Dec.{eqb}
 use Rattle.base.specs.Refusals.{done}
 use Rattle.message.specs.declared.Message.{Message}
 use Rattle.message.specs.declared.Proposal.{Proposal}
@@ -22,9 +21,8 @@ use Rattle.slots.proofs.Laws.{Sendable, holds_at}
 use Rattle.cell.specs.declared.Cell.{Cell}
 use Rattle.cell.specs.declared.Event.{Event}
 use Rattle.cell.specs.declared.Event.TheVariants.{Deliver}
-use Rattle.cell.specs.declared.Answered.{Answered}
 use Rattle.cell.specs.CellLimits.{host_at, content_at}
-use Rattle.cell.specs.Events.{cell_of, answer_with, stepped, delivered, deliver_step, refusal_of}
+use Rattle.cell.specs.Events.{cell_of, answer_with, stepped, delivered, deliver_step}
 use Rattle.cell.specs.Events.{after_of, looked_of, event_of}
 use Rattle.cell.specs.Claims.{Sound}
 use Rattle.cell.proofs.CellLimits.{n_of, cell_in}
