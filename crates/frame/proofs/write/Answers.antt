@@ -69,7 +69,7 @@ unfolding written_of after_write frame_of
 put_numbers-requires c =
     record {
       long = c.kind_length-len.ensures;
-      room = omega (arith, c.if-out-len.false);
+      room = omega arith;
     }
 
 pub returns : goal.returns
