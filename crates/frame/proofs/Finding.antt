@@ -2,9 +2,9 @@
 -- Assumes nothing.
 use mathlib.Core.Path.{◌≡◌}
 use mathlib.Core.Bool.{true, false}
+use mathlib.Core.List.{List}
 use Prim.Native.Nat.{ℕ, ◌≤◌, ◌<◌}
 use native.Mathlib.Omega.{arith}
-use mathlib.Core.List.{List}
 use lib.ListN.{length}
 use borrow.Author.Tests.{le-leb, lt-leb}
 use Rattle.base.specs.Refusals.{first_of, tests_in, fails_at, place_by}
@@ -90,6 +90,7 @@ found_whole z s c l k t r =
     in
     rw (read_whole z s whole, offset_whole z s whole)
 
+-- the laws by which `find` proves
 pub ruleset found_rules = (
   found_cell,
   found_fore,
