@@ -1,6 +1,7 @@
 -- Laws of frames: their answers and offsets, reading back what was written, sets of receivers, the
 -- claims.
 pub mod Answers
+pub mod Finding
 pub mod Walk
 pub mod Round
 pub mod Only

@@ -1,18 +1,20 @@
 -- The next host of a walk that shifts a set down to it: as many places on as the set has zeros at
 -- its low end. Assumes nothing.
-use mathlib.Core.Path.{◌≡◌, refl, ap, ◌∙◌}
-use mathlib.Core.List.{◌++◌}
+use mathlib.Core.Path.{◌≡◌, refl, sym, ap, ◌∙◌}
+use mathlib.Core.List.{List, ◌++◌}
 use Prim.Native.Nat.{ℕ, zero, suc, ◌+◌, ◌-◌, ◌/◌, ◌%◌, ◌^◌, ◌<◌}
 use native.Mathlib.Nat.{mod-lt, div-le_self}
 use native.Mathlib.Omega.{arith}
 use lib.Count.{count_trailing_zeros, under}
 use lib.Dec.{lit<}
+use lib.ListN.{length, length-append}
 use lib.Pow.{shr-shr}
 use Rattle.quorum.specs.Sets.{members_from}
 use Rattle.quorum.proofs.Laws.{members_step, walk_below}
 use Rattle.message.specs.declared.Numbers.{Numbers}
 use Rattle.message.specs.Message.{with_target}
-use Rattle.layout.specs.Layout.{bytes_of}
+use Rattle.layout.specs.Layout.{kind_length, bytes_of}
+use Rattle.layout.proofs.Laws.{bytes_length}
 use Rattle.frame.specs.Writing.{frames_in}
 
 -- t places on from h: that host is in the set, and none of those before it is
@@ -68,3 +70,19 @@ frames_due f set h b n =
       below = low;
       frames = rw (e, r.same (16 - (h + t)), members_step set (h + t) 16 low, r.within);
     }
+
+-- the frames to the set's hosts from h on
+abbrev pub due : Numbers → ℕ → ℕ → List ℕ
+due f set h = frames_in f (members_from set h (16 - h))
+
+-- the walk's turn: what is left of the set tells the next host
+pub next_due : (f : Numbers) (set h rest : ℕ) → rest ≡ set / 2 ^ h → set < 2 ^ 16
+    → (rest ≡ 0 → ⊥) → Due f set h (h + count_trailing_zeros 16 rest)
+next_due f set h rest e b n = rw e (frames_due f set h b (λ z. n (e ∙ z)))
+
+pub due_length : (f : Numbers) (set h g len : ℕ) → Due f set h g → len ≡ kind_length f.kind
+    → length (due f set h) ≡ len + length (due f set (g + 1))
+due_length f set h g len d k =
+    ap length d.frames
+    ∙ length-append (bytes_of (with_target f g)) (due f set (g + 1))
+    ∙ ap (λ (n : ℕ). n + length (due f set (g + 1))) (bytes_length (with_target f g) ∙ sym k)

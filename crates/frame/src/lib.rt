@@ -87,6 +87,7 @@ fn read_numbers(z: Sizes, f: Numbers, len: usize) -> Found
 }
 
 // The numbers of the frame that s begins with, and its length; bytes after it are not looked at.
+#[tactic(auto, using(crate::proofs::Finding::found_rules))]
 pub fn find(z: Sizes, s: &[u8]) -> Found
     ensures { result ≡ found_of z s.now }
 {

@@ -1,0 +1,38 @@
+-- `write_handed_to`: 1 and 3 come before what `frame::write_to` refuses (`kind_found`).
+use mathlib.Core.Path.{◌≡◌}
+use lib.ListN.{length}
+use borrow.Author.Tests.{eq-eqb, ne_eqb}
+use Rattle.frame.specs.Writing.{written_to, after_write_to, answer_to}
+use Rattle.frame_c.specs.Interface.{handed_answer_to, handed_written_to, after_handed_to}
+use Rattle.frame_c.proofs.Laws.{kind_found}
+use Rattle.frame_c.proofs.write_handed_to.Goals as goal
+
+pub returns-then-bad-ne-DONE : goal.returns-then-bad-ne-DONE
+unfolding handed_written_to after_handed_to handed_answer_to written_to after_write_to answer_to
+returns-then-bad-ne-DONE c =
+    let a = c.args in
+    let e = ne_eqb _ _ c.if-bad-ne-DONE.true in
+    let d : handed_answer_to a.z a.f a.set (length a.out.now)
+    ≡ c.kind_answer-bad.result =
+    rw (kind_found a.z a.f.kind _ _ _, ← c.kind_answer-bad.ensures, e) in
+    (rw (d, e), rw (d, e))
+
+pub returns : goal.returns
+unfolding handed_written_to after_handed_to handed_answer_to written_to after_write_to answer_to
+returns c =
+    let a = c.args in
+    let e = eq-eqb _ _ c.if-bad-ne-DONE.false in
+    let w = c.write_to.ensures in (
+      rw (
+        kind_found a.z a.f.kind _ _ _,
+        ← c.kind_answer-bad.ensures,
+        e,
+        ← c.message_of.ensures,
+      ) w.0,
+      rw (
+        kind_found a.z a.f.kind _ _ _,
+        ← c.kind_answer-bad.ensures,
+        e,
+        ← c.message_of.ensures,
+      ) w.1,
+    )
