@@ -1,6 +1,6 @@
 -- The event that comes of what was found of it, once what it sends has its slots or there is no
 -- room for it. Assumes nothing.
-use mathlib.Core.Path.{◌≡◌, refl, sym, ap, ◌∙◌}
+use mathlib.Core.Path.{◌≡◌, refl, ap, ◌∙◌}
 use mathlib.Core.Bool.{cond}
 use mathlib.Core.Logic.{⊎_elim}
 use mathlib.Core.List.{List, []}
@@ -12,7 +12,6 @@ use Rattle.quorum.specs.Sets.{members}
 use Rattle.quorum.proofs.Laws.{members_none}
 use Rattle.host.specs.declared.Host.{Host}
 use Rattle.host.specs.declared.Sent.{Sent}
-use Rattle.message.specs.declared.Message.{Message}
 use Rattle.slots.specs.declared.Slot.{Slot}
 use Rattle.slots.specs.Slots.{slot_count, looked_for, freed}
 use Rattle.cell.specs.declared.Cell.{Cell}

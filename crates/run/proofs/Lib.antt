@@ -1,3 +1,4 @@
 -- Laws of a run of events.
 pub mod Playing
 pub mod Acting
+pub mod Turn

@@ -2,14 +2,11 @@
 -- gives. Assumes nothing.
 use mathlib.Core.Path.{◌≡◌, refl, sym, ap, ◌∙◌}
 use mathlib.Core.Bool.{cond}
-use mathlib.Core.Logic.{⊎_elim}
 use mathlib.Core.List.{List, [], ◌∷◌, ◌++◌}
 use Prim.Native.Nat.{ℕ, suc, ◌+◌, ◌-◌, ◌*◌, ◌≤◌, ◌<◌}
 use native.Mathlib.Omega.{arith}
 use lib.Dec.{eqb}
 use lib.ListN.{length}
-use types.Run.{OneOf}
-use denote.Enum.Declared.{tag_of}
 use Rattle.base.specs.Refusals.{done}
 use Rattle.text.specs.Parts.{Put}
 use Rattle.text.proofs.Laws.{Todo, todo_begin, todo_step, todo_end, put_length}
@@ -25,7 +22,6 @@ use Rattle.cell.specs.Claims.{Sound}
 use Rattle.cell.proofs.StaysWithin.{kept_event}
 use Rattle.record.specs.declared.Record.{Record}
 use Rattle.record.specs.Record.{kind_of, record_at}
-use Rattle.record.specs.contracts.Record as R
 use Rattle.record.proofs.Laws.{record_next}
 use Rattle.lines.specs.Lines.{event, names_from, counts, line_text, text_of}
 use Rattle.listing.specs.declared.Walk.{Walk}
@@ -175,25 +171,23 @@ module _ {c₀ : Cell} {first : Record} {run out₀ : List ℕ} {from : ℕ} {s 
               t;
         })
 
--- what the `else` of a `let .. else` knows of a record: the number of its variant
+-- what the `else` of a `let .. else` knows of a record
 abbrev pub NoEvent : Record → Type 0
-NoEvent r = OneOf (0 ∷ 1 ∷ []) (tag_of R.the_type r)
+NoEvent r = (e : Event) (next : ℕ) → r ≡ Record.Event e next → ⊥
 
 -- at a record that is no event nothing is left, and its lines are the last
 no_events : (run : List ℕ) (at : ℕ) (r : Record) → NoEvent r → events_after run at r ≡ []
 unfolding events_of
 no_events run at Record.End t = refl
 no_events run at (Record.Fault f o) t = refl
-no_events run at (Record.Event e next) t =
-    absurd (⊎_elim (λ h. omega arith) (λ h. omega arith) t)
+no_events run at (Record.Event e next) t = absurd (t e next refl)
 
 last_lines_lem : (run : List ℕ) (at a k : ℕ) (r : Record) → NoEvent r
     → last_lines at a k r ≡ stop_lines (script_after run at r) ++ (counts a k ∷ [])
 unfolding last_lines stop_lines
 last_lines_lem run at a k Record.End t = refl
 last_lines_lem run at a k (Record.Fault f o) t = refl
-last_lines_lem run at a k (Record.Event e next) t =
-    absurd (⊎_elim (λ h. omega arith) (λ h. omega arith) t)
+last_lines_lem run at a k (Record.Event e next) t = absurd (t e next refl)
 
 pub going_end : {c₀ : Cell} {first : Record} {run out₀ : List ℕ} {from : ℕ} {s : Settings}
     {hosts : List Host} {slots : List Slot} {r : Record} {out : List ℕ} {w : Walk}
