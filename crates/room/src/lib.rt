@@ -1,5 +1,5 @@
-// The bytes that the programs lend, and reading into them. The contracts give only their lengths, so
-// that no proof above computes them.
+// The bytes that the programs lend, and reading into them. The contracts give only their lengths,
+// so that no proof above computes them.
 #![tactic(auto)]
 
 ghost use Rattle.std.specs.Prelude.{◌≡◌, ◌≤◌, length, IfOk};
