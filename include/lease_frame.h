@@ -2,9 +2,9 @@
  * Reading and writing the frames that the hosts of a lease cell send each
  * other, for host programs written in C.
  *
- * Link with libframe_c.a, which `rt staticlib frame_c` makes and which is for
- * x86-64 Linux. No function allocates, blocks, or keeps a pointer after it
- * returns.
+ * Link with target/staticlib/libframe_c.a, which `./build frame_c` makes and
+ * which is for x86-64 Linux. No function allocates, blocks, or keeps a pointer
+ * after it returns.
  *
  * `length`, `offset` and `numbers` must not be NULL. A byte slice may be NULL if
  * its length is 0. No two arguments may overlap in memory. What `out`,

@@ -1,7 +1,7 @@
 #!/usr/bin/env python3
 """Respells the definitions and lemmas of this repository in today's form, once, after the kit's
-port.py: words in snake case, types and modules as they are, `_lem` where a lemma would have the name
-of a definition. Functions of src/, strings, inputs and outputs keep their names.
+port.py: words in snake case, types and modules as they are, `_lem` where a lemma would have the
+name of a definition. Functions of src/, strings, inputs and outputs keep their names.
 Run at the top of the repository: python3 tools/respell.py"""
 import collections
 import glob

@@ -14,7 +14,8 @@ use borrow.Author.Tests.{ltb-true, leb-true, eqb-true, eqb-false, not-true, le-l
 use Rattle.base.specs.Refusals.{done, unless, first_of, refused_cell, refused_host, refused_spread}
 use Rattle.base.specs.Refusals.{refused_clock}
 use Rattle.base.specs.Lists.{All}
-use Rattle.base.proofs.Tests.{true_false, by_test, first_passed, first_only, first_same, first_of_lem}
+use Rattle.base.proofs.Tests.{true_false, by_test, first_passed, first_only, first_same}
+use Rattle.base.proofs.Tests.{first_of_lem}
 use Rattle.base.proofs.Tests.{unless_passed, unless_next}
 use Rattle.message.specs.Message.{last_tick}
 use Rattle.host.specs.declared.Host.{Host}

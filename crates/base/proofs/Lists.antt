@@ -63,7 +63,8 @@ set_set (x ∷ xs) (suc i) (suc j) a b d = ap (λ ys. x ∷ ys) (set_set xs i j 
 -- the elements from i on are element i and the rest
 pub from_place : {A : Type 0} (xs : List A) (i : ℕ) (d : A) → i < length xs
     → drop i xs ≡ get_or xs i d ∷ drop (i + 1) xs
-from_place xs i d h = drop-cons xs i d h ∙ ap (λ (k : ℕ). get_or xs i d ∷ drop k xs) (sym (add-one i))
+from_place xs i d h =
+    drop-cons xs i d h ∙ ap (λ (k : ℕ). get_or xs i d ∷ drop k xs) (sym (add-one i))
 
 -- what owning a field that is an array of structs tells of its list
 pub length_mapped : {A B : Type 0} (f : A → B) (l : List A) (n : ℕ) → length (map f l) ≡ n

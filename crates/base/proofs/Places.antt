@@ -233,6 +233,7 @@ given_each place (r ∷ rs) h n =
     (is_not _ h.0) (λ e m. inl (refl, fails_given place r.tests e))
     (λ e m. inr (given_each place rs h.1 m)) n
 
-pub given : {Field : Type 0} (place : Field → ℕ) (rs : List (Refusal Field)) → none_of done rs ≡ true
+pub given : {Field : Type 0} (place : Field → ℕ) (rs : List (Refusal Field))
+    → none_of done rs ≡ true
     → (answer_by rs ≡ done → ⊥) → GivenAt place rs (answer_by rs) (place_by place rs)
 given place rs e n = given_each place rs (all_of_in _ e) n

@@ -65,7 +65,8 @@ first_only k =
 pub first_of_lem : (P : ℕ → Type 0) (k : ℕ) (ks : List ℕ) → P k → (k ≡ done → P (first_of ks))
     → P (first_of (k ∷ ks))
 unfolding first_of
-first_of_lem P k ks p f = by_test P (eqb k done) (first_of ks) k (λ e. f (eqb-true k done e)) (λ _. p)
+first_of_lem P k ks p f =
+    by_test P (eqb k done) (first_of ks) k (λ e. f (eqb-true k done e)) (λ _. p)
 
 -- two lists that begin with the same number
 pub first_same : (k : ℕ) (ks ls : List ℕ) → (k ≡ done → first_of ks ≡ first_of ls)

@@ -2,13 +2,15 @@
 // A write that fails ends it quietly.
 #![tactic(auto)]
 
-use libc::{STDIN_FILENO, STDOUT_FILENO};
+use std::io;
+use std::io::Write;
 
-fn main() {
+fn main(rt: HostRuntime) -> io::Result<()> {
     let mut run = room::run_bytes();
-    let n = io::read_full(STDIN_FILENO, &mut run);
+    let n = room::fill(&mut rt.reader(), &mut run)?;
     let mut out = room::listing_bytes();
     let listed = player::list(&run[..n], &mut out);
     let len = listed.len;
-    io::write_all(STDOUT_FILENO, &out[..len]);
+    let _ = io::writer(&rt).write_all(&out[..len]);
+    Ok(())
 }

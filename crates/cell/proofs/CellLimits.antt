@@ -154,7 +154,8 @@ pub n_of : (c : Cell) → cell_ok c ≡ true → SettingsIn c.settings
 n_of c e = settings_in c.settings (tests_in_lem c e).settings
 
 -- writing to its target refuses nothing in a message under way
-pub message_of_lem : (c : Cell) (i : ℕ) (m : Message) → cell_ok c ≡ true → content_at c i ≡ Content.One m
+pub message_of_lem : (c : Cell) (i : ℕ) (m : Message) → cell_ok c ≡ true
+    → content_at c i ≡ Content.One m
     → fault_of (sizes_of c.settings) (numbers_of m) ≡ done
 message_of_lem c i m e f =
     holds_at (Sendable (sizes_of c.settings)) c.slots i m

@@ -27,7 +27,8 @@ use Rattle.host.specs.declared.Host.{Host}
 use Rattle.host.specs.declared.Sent.{Sent}
 use Rattle.host.specs.declared.Stepped.{Stepped}
 use Rattle.host.specs.Claims.{writes}
-use Rattle.host.specs.Steps.{host_ok, advance_refusal, restart_refusal, start_refusal, release_refusal}
+use Rattle.host.specs.Steps.{host_ok, advance_refusal, restart_refusal, start_refusal}
+use Rattle.host.specs.Steps.{release_refusal}
 use Rattle.host.proofs.Within.{Passes, fine_step}
 use Rattle.host.proofs.Outcomes.{Cause, begins, lets_go, gets, step_on}
 use Rattle.slots.specs.declared.Slot.{Slot}
@@ -131,7 +132,8 @@ module _ (c : Cell) where
       (p1.0, (both (ltb i slot_count) (not (is_empty t)) p2.0).1, p2.1)
 
   delivered_fills : (i : ℕ) (t : Content) → content_at c i ≡ t
-      → first_of (unless (cell_ok c) refused_cell ∷ slot_refusal i t ∷ deliver_full c i t ∷ []) ≡ done
+      → first_of (unless (cell_ok c) refused_cell ∷ slot_refusal i t ∷ deliver_full c i t ∷ [])
+      ≡ done
       → FilledUpTo (deliver_looked c i t) (freed c.slots i) (delivered c i t).slots
   unfolding deliver_full deliver_looked delivered is_empty
   delivered_fills i Content.Empty q e = true_false (sym (slot_passed i Content.Empty _ e).1)
@@ -190,7 +192,8 @@ not_full b k n =
 pub none_full : NotFull (first_of [])
 none_full = none_of_lem NotFull (λ e. absurd (omega (arith, e)))
 
-pub then_full : (b : Bool) (k : ℕ) (ks : List ℕ) → eqb k refused_full ≡ false → NotFull (first_of ks)
+pub then_full : (b : Bool) (k : ℕ) (ks : List ℕ) → eqb k refused_full ≡ false
+    → NotFull (first_of ks)
     → NotFull (first_of (unless b k ∷ ks))
 then_full b k ks n f = first_of_lem NotFull (unless b k) ks (not_full b k n) (λ _. f)
 
@@ -270,8 +273,8 @@ module _ (c : Cell) (z : Sized c) where
       (sym (first_only _) ∙ slot_past i (Content.One m) _ (cell_past _ e))
 
   full_placing : (e : Event) → refusal_of c e ≡ refused_full → placing_of c e ≡ slot_count
-  unfolding refusal_of placing_of advance_all_refusal advance_one_refusal start_at_refusal deliver_refusal
-      lose_refusal repeat_refusal restart_at_refusal release_at_refusal
+  unfolding refusal_of placing_of advance_all_refusal advance_one_refusal start_at_refusal
+      deliver_refusal lose_refusal repeat_refusal restart_at_refusal release_at_refusal
   full_placing (AdvanceAll d) q =
       absurd (by_advances c d NotFull (λ e. absurd (omega (arith, e)))
       (λ k b. advance_not_full c.settings (host_at c k) d)

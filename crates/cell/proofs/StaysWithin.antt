@@ -16,7 +16,8 @@ use Rattle.state.specs.declared.Settings.{Settings}
 use Rattle.state.specs.StateLimits.{sizes_of}
 use Rattle.host.specs.declared.Host.{Host}
 use Rattle.host.specs.declared.Stepped.{Stepped}
-use Rattle.host.specs.Steps.{host_ok, advance_refusal, advanced_host, restart_refusal, restarted_host}
+use Rattle.host.specs.Steps.{host_ok, advance_refusal, advanced_host, restart_refusal}
+use Rattle.host.specs.Steps.{restarted_host}
 use Rattle.state.proofs.StateLimits.{settings_in}
 use Rattle.host.proofs.HostLimits.{host_in}
 use Rattle.host.proofs.Writable.{writable_each}
@@ -123,7 +124,8 @@ slots_kept c ss o l p =
 host_kept : (c : Cell) (h : ℕ) (x : Host) → Sound c → h < c.settings.n
     → x.number ≡ (host_at c h).number → host_ok c.settings x ≡ true
     → ((j k : ℕ) → j < c.settings.n → k < c.settings.n
-    → (host_at (with_host_at c h x) j).clock ≤ (host_at (with_host_at c h x) k).clock + c.settings.spread)
+    → (host_at (with_host_at c h x) j).clock ≤ (host_at (with_host_at c h x) k).clock
+    + c.settings.spread)
     → Sound (with_host_at c h x)
 host_kept c h x o b e f near =
     let i = cell_in c o.0 o.1 in
@@ -145,7 +147,8 @@ host_kept c h x o b e f near =
 -- one host replaced by one with the same clock
 still_near : (c : Cell) (h : ℕ) (x : Host) → CellIn c → x.clock ≡ (host_at c h).clock → (j k : ℕ)
     → j < c.settings.n → k < c.settings.n
-    → (host_at (with_host_at c h x) j).clock ≤ (host_at (with_host_at c h x) k).clock + c.settings.spread
+    → (host_at (with_host_at c h x) j).clock ≤ (host_at (with_host_at c h x) k).clock
+    + c.settings.spread
 still_near c h x i t j k p q = rw (same j, same k) (i.near j k p q)
   where
     same : (k : ℕ) → (host_at (with_host_at c h x) k).clock ≡ (host_at c k).clock
@@ -189,7 +192,8 @@ kept_advance_all c d o e =
     let i = cell_in c o.0 o.1 in
     let few = (settings_in s i.settings).few in
     let z = sized_all c d o.0 in
-    let p = first_passed (hosts_refusal c d) [] (unless_passed (cell_ok c) refused_cell _ refl e).1 in
+    let p = first_passed (hosts_refusal c d) []
+    (unless_passed (cell_ok c) refused_cell _ refl e).1 in
     let at = all_below c d o.0 few in
     let fine : (k : ℕ) → k < s.n → host_ok s (advanced_host (host_at c k) d) ≡ true = λ k a.
     (fine_advance s (host_at c k) d (all_passed c d o.0 few p.0 k a)).kept in (

@@ -3,7 +3,8 @@
 -- book's. Assumes nothing.
 use Rattle.std.specs.Prelude.{ℕ, cond, ◌||◌, List, [], ◌∷◌, ltb, leb, eqb}
 use Rattle.base.specs.Refusals.{done, unless, first_of, test, Refusal, refusal, answer_by}
-use Rattle.base.specs.Refusals.{refused_cell, refused_host, refused_tick, refused_full, refused_spread}
+use Rattle.base.specs.Refusals.{refused_cell, refused_host, refused_tick, refused_full}
+use Rattle.base.specs.Refusals.{refused_spread}
 use Rattle.quorum.specs.Sets.{size_of}
 use Rattle.message.specs.declared.Message.{Message}
 use Rattle.message.specs.Message.{last_tick, target_of}
@@ -16,7 +17,8 @@ use Rattle.host.specs.Steps.{start_refusal, on_start, release_refusal, on_releas
 use Rattle.places.specs.Places.{new_hosts, advances_refusal, advanced_hosts}
 use Rattle.slots.specs.declared.Slot.{Slot}
 use Rattle.slots.specs.declared.Content.{Content}
-use Rattle.slots.specs.Slots.{no_messages, slot_refusal, full_refusal, placed, placed_to, looked_for}
+use Rattle.slots.specs.Slots.{no_messages, slot_refusal, full_refusal, placed, placed_to}
+use Rattle.slots.specs.Slots.{looked_for}
 use Rattle.slots.specs.Slots.{freed}
 use Rattle.cell.specs.declared.Cell.{Cell}
 use Rattle.cell.specs.declared.Event.{Event}

@@ -10,6 +10,7 @@ use message::{
     LEARN, PREPARE_REQUEST, PREPARE_RESPONSE_EMPTY, PREPARE_RESPONSE_LEASE, PROPOSE_REQUEST,
     PROPOSE_RESPONSE, RELEASE_REQUEST, Sizes,
 };
+use std::io;
 
 mod sample;
 mod show;
@@ -25,67 +26,76 @@ const ZERO: [u8; 24] = [
     24, 0, 4, 0, 0, 0, 0, 0, 0, 0, 0, 0, 0, 0, 0, 0, 0, 0, 0, 0, 0, 0, 0, 0,
 ];
 
-fn worked() {
-    show::reading(b"P11", frame::read(sample::sizes(), &P11));
-    show::reading(b"P12", frame::read(sample::sizes(), &P12));
-    show::reading(b"zero tick and end", frame::read(Sizes { n: 1 }, &ZERO));
+fn worked(rt: &impl Print) -> io::Result<()> {
+    show::reading(rt, b"P11", frame::read(sample::sizes(), &P11))?;
+    show::reading(rt, b"P12", frame::read(sample::sizes(), &P12))?;
+    show::reading(rt, b"zero tick and end", frame::read(Sizes { n: 1 }, &ZERO))
 }
 
 // The frame of a kind's sample, and what is read from it.
-fn one_kind(kind: u16) {
+fn one_kind(rt: &impl Print, kind: u16) -> io::Result<()> {
     let mut out = [0u8; 33];
     let w = frame::write(sample::sizes(), sample::message_of_kind(kind), &mut out);
-    show::frame(&out, w.len);
-    show::reading(b"  reads", frame::read(sample::sizes(), &out));
+    show::frame(rt, &out, w.len)?;
+    show::reading(rt, b"  reads", frame::read(sample::sizes(), &out))
 }
 
-fn kinds() {
-    one_kind(PREPARE_REQUEST);
-    one_kind(PREPARE_RESPONSE_EMPTY);
-    one_kind(PREPARE_RESPONSE_LEASE);
-    one_kind(PROPOSE_REQUEST);
-    one_kind(PROPOSE_RESPONSE);
-    one_kind(LEARN);
-    one_kind(RELEASE_REQUEST);
+fn kinds(rt: &impl Print) -> io::Result<()> {
+    one_kind(rt, PREPARE_REQUEST)?;
+    one_kind(rt, PREPARE_RESPONSE_EMPTY)?;
+    one_kind(rt, PREPARE_RESPONSE_LEASE)?;
+    one_kind(rt, PROPOSE_REQUEST)?;
+    one_kind(rt, PROPOSE_RESPONSE)?;
+    one_kind(rt, LEARN)?;
+    one_kind(rt, RELEASE_REQUEST)
 }
 
-fn read_sixteen(label: &[u8], bytes: &[u8; 16]) {
-    show::reading(label, frame::read(sample::sizes(), bytes));
+fn read_sixteen(rt: &impl Print, label: &[u8], bytes: &[u8; 16]) -> io::Result<()> {
+    show::reading(rt, label, frame::read(sample::sizes(), bytes))
 }
 
 // What is read once one byte of P11 is another.
-fn damaged(label: &[u8], at: usize, byte: u8) {
+fn damaged(rt: &impl Print, label: &[u8], at: usize, byte: u8) -> io::Result<()> {
     let mut bytes = P11;
     if at < 16 {
         bytes[at] = byte;
     }
-    read_sixteen(label, &bytes);
+    read_sixteen(rt, label, &bytes)
 }
 
-fn refused_readings() {
-    show::reading(b"read 1 cell", frame::read(Sizes { n: 10 }, &P11));
+fn refused_readings(rt: &impl Print) -> io::Result<()> {
+    show::reading(rt, b"read 1 cell", frame::read(Sizes { n: 10 }, &P11))?;
     show::reading(
+        rt,
         b"read 2 cut, under 4 bytes",
         frame::read(sample::sizes(), &[15, 0, 1]),
-    );
-    damaged(b"read 3 kind", 2, 8);
-    damaged(b"read 17 short length", 0, 14);
-    damaged(b"read 4 length", 0, 16);
+    )?;
+    damaged(rt, b"read 3 kind", 2, 8)?;
+    damaged(rt, b"read 17 short length", 0, 14)?;
+    damaged(rt, b"read 4 length", 0, 16)?;
     show::reading(
+        rt,
         b"read 2 cut",
         frame::read(sample::sizes(), &[15, 0, 1, 0, 0, 2, 105]),
-    );
-    damaged(b"read 5 host", 5, 3);
-    damaged(b"read 6 tick", 13, 1);
-    damaged(b"read 7 party", 14, 1);
+    )?;
+    damaged(rt, b"read 5 host", 5, 3)?;
+    damaged(rt, b"read 6 tick", 13, 1)?;
+    damaged(rt, b"read 7 party", 14, 1)
 }
 
-fn read_longest(label: &[u8], bytes: &[u8; 33]) {
-    show::reading(label, frame::read(sample::sizes(), bytes));
+fn read_longest(rt: &impl Print, label: &[u8], bytes: &[u8; 33]) -> io::Result<()> {
+    show::reading(rt, label, frame::read(sample::sizes(), bytes))
 }
 
 // What is read once two bytes of a kind's sample are others.
-fn damaged_twice(label: &[u8], kind: u16, first: usize, second: usize, byte: u8) {
+fn damaged_twice(
+    rt: &impl Print,
+    label: &[u8],
+    kind: u16,
+    first: usize,
+    second: usize,
+    byte: u8,
+) -> io::Result<()> {
     let mut bytes = sample_frame(kind);
     if first < 33 {
         bytes[first] = byte;
@@ -93,56 +103,65 @@ fn damaged_twice(label: &[u8], kind: u16, first: usize, second: usize, byte: u8)
     if second < 33 {
         bytes[second] = byte;
     }
-    read_longest(label, &bytes);
+    read_longest(rt, label, &bytes)
 }
 
 // Where a refusal is found: the first of two fields, and the party of a response.
-fn refused_offsets() {
-    damaged_twice(b"target and owner", PROPOSE_REQUEST, 5, 15, 9);
+fn refused_offsets(rt: &impl Print) -> io::Result<()> {
+    damaged_twice(rt, b"target and owner", PROPOSE_REQUEST, 5, 15, 9)?;
     damaged_twice(
+        rt,
         b"ballot's and accepted host",
         PREPARE_RESPONSE_LEASE,
         14,
         23,
         9,
-    );
+    )?;
     damaged_twice(
+        rt,
         b"accepted host and owner",
         PREPARE_RESPONSE_LEASE,
         23,
         24,
         9,
-    );
-    damaged_twice(b"accepted tick and end", PREPARE_RESPONSE_LEASE, 22, 32, 9);
-    damaged_twice(b"owner and end", LEARN, 15, 23, 9);
-    damaged_twice(b"holder's end", LEARN, 23, 23, 9);
-    damaged_twice(b"a response's party", PROPOSE_RESPONSE, 5, 5, 1);
+    )?;
+    damaged_twice(
+        rt,
+        b"accepted tick and end",
+        PREPARE_RESPONSE_LEASE,
+        22,
+        32,
+        9,
+    )?;
+    damaged_twice(rt, b"owner and end", LEARN, 15, 23, 9)?;
+    damaged_twice(rt, b"holder's end", LEARN, 23, 23, 9)?;
+    damaged_twice(rt, b"a response's party", PROPOSE_RESPONSE, 5, 5, 1)
 }
 
 // What writing P11's message, with another sender and tick, into 15 bytes answers.
-fn written(label: &[u8], n: u8, sender: u8, tick: u64) {
+fn written(rt: &impl Print, label: &[u8], n: u8, sender: u8, tick: u64) -> io::Result<()> {
     let mut out = [0u8; 15];
     let w = frame::write(Sizes { n }, sample::request(sender, tick), &mut out);
-    show::written(label, w.answer, w.len);
+    show::written(rt, label, w.answer, w.len)
 }
 
-fn no_room() {
+fn no_room(rt: &impl Print) -> io::Result<()> {
     let mut out = [0u8; 14];
     let w = frame::write(sample::sizes(), sample::request(0, 105), &mut out);
-    show::written(b"write 8 room", w.answer, w.len);
+    show::written(rt, b"write 8 room", w.answer, w.len)
 }
 
-fn refused_writings() {
-    written(b"write 1 cell", 0, 0, 105);
-    written(b"write 5 host", 3, 3, 105);
-    written(b"write 6 tick", 3, 0, message::LAST_TICK + 1);
-    written(b"write 7 party", 3, 1, 105);
-    no_room();
-    written(b"write 0 done", 3, 0, message::LAST_TICK);
+fn refused_writings(rt: &impl Print) -> io::Result<()> {
+    written(rt, b"write 1 cell", 0, 0, 105)?;
+    written(rt, b"write 5 host", 3, 3, 105)?;
+    written(rt, b"write 6 tick", 3, 0, message::LAST_TICK + 1)?;
+    written(rt, b"write 7 party", 3, 1, 105)?;
+    no_room(rt)?;
+    written(rt, b"write 0 done", 3, 0, message::LAST_TICK)
 }
 
 // What writing a kind's sample to a set of receivers answers.
-fn to_set(label: &[u8], kind: u16, set: u16) {
+fn to_set(rt: &impl Print, label: &[u8], kind: u16, set: u16) -> io::Result<()> {
     let mut out = [0u8; 99];
     let w = frame::write_to(
         sample::sizes(),
@@ -150,15 +169,15 @@ fn to_set(label: &[u8], kind: u16, set: u16) {
         set,
         &mut out,
     );
-    show::written(label, w.answer, w.len);
+    show::written(rt, label, w.answer, w.len)
 }
 
-fn sets() {
-    to_set(b"set of all three", LEARN, 7);
-    to_set(b"set of none", LEARN, 0);
-    to_set(b"set 5 host", LEARN, 8);
-    to_set(b"set 7 party", PREPARE_RESPONSE_LEASE, 2);
-    to_set(b"set of the ballot's host", PREPARE_RESPONSE_LEASE, 1);
+fn sets(rt: &impl Print) -> io::Result<()> {
+    to_set(rt, b"set of all three", LEARN, 7)?;
+    to_set(rt, b"set of none", LEARN, 0)?;
+    to_set(rt, b"set 5 host", LEARN, 8)?;
+    to_set(rt, b"set 7 party", PREPARE_RESPONSE_LEASE, 2)?;
+    to_set(rt, b"set of the ballot's host", PREPARE_RESPONSE_LEASE, 1)
 }
 
 // What a frame is answered with another length field.
@@ -187,8 +206,8 @@ fn lengths(bytes: [u8; 33], answer: u8) -> u64 {
 }
 
 // An answer and how often it came.
-fn lengths_answered(bytes: [u8; 33], answer: u8) {
-    show::count_of(answer, lengths(bytes, answer));
+fn lengths_answered(rt: &impl Print, bytes: [u8; 33], answer: u8) -> io::Result<()> {
+    show::count_of(rt, answer, lengths(bytes, answer))
 }
 
 // The frame of a kind's sample, in 33 bytes.
@@ -198,33 +217,34 @@ fn sample_frame(kind: u16) -> [u8; 33] {
     out
 }
 
-fn lengths_of_kind(kind: u16) {
+fn lengths_of_kind(rt: &impl Print, kind: u16) -> io::Result<()> {
     let bytes = sample_frame(kind);
-    show::lengths_head(kind);
+    show::lengths_head(rt, kind)?;
     let mut answer: u8 = 0;
     while answer <= REFUSED_SHORT {
-        lengths_answered(bytes, answer);
+        lengths_answered(rt, bytes, answer)?;
         answer = answer + 1;
     }
-    print::line_end();
+    print::line_end(rt)
 }
 
-fn all_lengths() {
-    lengths_of_kind(PREPARE_REQUEST);
-    lengths_of_kind(PREPARE_RESPONSE_EMPTY);
-    lengths_of_kind(PREPARE_RESPONSE_LEASE);
-    lengths_of_kind(PROPOSE_REQUEST);
-    lengths_of_kind(PROPOSE_RESPONSE);
-    lengths_of_kind(LEARN);
-    lengths_of_kind(RELEASE_REQUEST);
+fn all_lengths(rt: &impl Print) -> io::Result<()> {
+    lengths_of_kind(rt, PREPARE_REQUEST)?;
+    lengths_of_kind(rt, PREPARE_RESPONSE_EMPTY)?;
+    lengths_of_kind(rt, PREPARE_RESPONSE_LEASE)?;
+    lengths_of_kind(rt, PROPOSE_REQUEST)?;
+    lengths_of_kind(rt, PROPOSE_RESPONSE)?;
+    lengths_of_kind(rt, LEARN)?;
+    lengths_of_kind(rt, RELEASE_REQUEST)
 }
 
-fn main() {
-    worked();
-    kinds();
-    refused_readings();
-    refused_offsets();
-    refused_writings();
-    sets();
-    all_lengths();
+fn main(rt: HostRuntime) -> io::Result<()> {
+    let rt = &rt;
+    worked(rt)?;
+    kinds(rt)?;
+    refused_readings(rt)?;
+    refused_offsets(rt)?;
+    refused_writings(rt)?;
+    sets(rt)?;
+    all_lengths(rt)
 }

@@ -33,7 +33,8 @@ use Rattle.host.specs.declared.Host.{Host}
 use Rattle.host.specs.declared.Stepped.{Stepped}
 use Rattle.host.specs.Steps.{host_ok, refused_with, quiet_with, advance_refusal, restart_refusal}
 use Rattle.host.specs.Steps.{start_refusal, release_refusal, asking_after, on_reply}
-use Rattle.host.specs.Steps.{on_prepare_response, on_vote, on_propose_response, on_learn, on_message}
+use Rattle.host.specs.Steps.{on_prepare_response, on_vote, on_propose_response, on_learn}
+use Rattle.host.specs.Steps.{on_message}
 use Rattle.host.specs.Steps.{on_delivery, receive_refusal, receive_of}
 use Rattle.host.proofs.HostLimits.{HostIn, host_in}
 

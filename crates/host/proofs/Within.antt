@@ -16,7 +16,8 @@ use Rattle.message.specs.declared.Message.{Message}
 use Rattle.message.specs.declared.Message.TheVariants.{PrepareRequest, PrepareResponseEmpty}
 use Rattle.message.specs.declared.Message.TheVariants.{PrepareResponseLease, ProposeRequest}
 use Rattle.message.specs.declared.Message.TheVariants.{ProposeResponse, Learn, ReleaseRequest}
-use Rattle.message.specs.Message.{last_tick, prepare_request, release_request, is_response, numbers_of}
+use Rattle.message.specs.Message.{last_tick, prepare_request, release_request, is_response}
+use Rattle.message.specs.Message.{numbers_of}
 use Rattle.message.specs.Faults.{fault_of, fault_to}
 use Rattle.message.proofs.Laws.{fault_passed}
 use Rattle.rules.specs.declared.Accepted.{Accepted}

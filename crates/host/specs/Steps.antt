@@ -1,8 +1,10 @@
 -- The steps of one host, in document 01's order, with document 02's changes: what is refused and
 -- what is done, apart. Assumes nothing.
 use Rattle.std.specs.Prelude.{ℕ, ◌+◌, ◌^◌, Bool, cond, not, [], ◌∷◌, ltb, leb, eqb}
-use Rattle.base.specs.Refusals.{done, unless, first_of, refused_cell, refused_party, refused_waiting}
-use Rattle.base.specs.Refusals.{refused_same_tick, refused_duration, refused_clock, refused_not_holder}
+use Rattle.base.specs.Refusals.{done, unless, first_of, refused_cell, refused_party}
+use Rattle.base.specs.Refusals.{refused_waiting}
+use Rattle.base.specs.Refusals.{refused_same_tick, refused_duration, refused_clock}
+use Rattle.base.specs.Refusals.{refused_not_holder}
 use Rattle.base.specs.Lists.{all_of}
 use Rattle.quorum.specs.Sets.{single_of, with_host, everyone_of, others_of}
 use Rattle.message.specs.declared.Ballot.{Ballot}

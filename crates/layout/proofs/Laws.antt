@@ -21,7 +21,8 @@ use Rattle.message.specs.declared.Message.{Message}
 use Rattle.message.specs.declared.Message.TheVariants.{PrepareRequest, PrepareResponseEmpty}
 use Rattle.message.specs.declared.Message.TheVariants.{PrepareResponseLease, ProposeRequest}
 use Rattle.message.specs.declared.Message.TheVariants.{ProposeResponse, Learn, ReleaseRequest}
-use Rattle.message.specs.Message.{prepare_response_lease, propose_request, learn, known_kind, numbers_of}
+use Rattle.message.specs.Message.{prepare_response_lease, propose_request, learn, known_kind}
+use Rattle.message.specs.Message.{numbers_of}
 use Rattle.message.specs.Message.{message_of, is_response}
 use Rattle.message.specs.Faults.{Field, settings, lent_bytes, frame_length, kind_number, sender}
 use Rattle.message.specs.Faults.{target, ballot_tick, ballot_host}
@@ -44,7 +45,8 @@ length_least k = omega arith
 pub length_most : (k : ℕ) → known_kind k ≡ true → kind_length k ≤ most_length
 unfolding kind_length more_of total
 length_most =
-    by_kind (λ (k : ℕ). kind_length k ≤ most_length) (lit≤ tt) (lit≤ tt) (lit≤ tt) (lit≤ tt) (lit≤ tt)
+    by_kind (λ (k : ℕ). kind_length k ≤ most_length) (lit≤ tt) (lit≤ tt) (lit≤ tt) (lit≤ tt)
+    (lit≤ tt)
     (lit≤ tt) (lit≤ tt)
 
 -- what follows the head, by the three tests of the kind
@@ -126,7 +128,8 @@ pub no_keepers_lem : (k : ℕ) → eqb k prepare_response_lease ≡ false → eq
 unfolding kind_length more_of total offset_in
 no_keepers_lem k e d = rw (e, d) (go (eqb k learn))
   where
-    go : (c : Bool) → length_by false false c ≡ offset_in (common ++ more_by false false c) keepers_end
+    go : (c : Bool)
+        → length_by false false c ≡ offset_in (common ++ more_by false false c) keepers_end
     go true = refl
     go false = refl
 
@@ -164,7 +167,8 @@ fault_place place z f =
     let ticks = tick_tests f in
     let party = test (party_field f) (party_fits f) ∷ [] in
     fails_append place hosts (ticks ++ party)
-    ∙ ap (λ (x : ℕ). cond (all_hold hosts) x (fails_at place hosts)) (fails_append place ticks party)
+    ∙ ap (λ (x : ℕ). cond (all_hold hosts) x (fails_at place hosts))
+    (fails_append place ticks party)
 
 -- the places of a message's fields are the table's offsets, however many bytes are lent
 
@@ -174,7 +178,8 @@ place_field : (lent k : ℕ) (x : Field) → eqb (field_number x) (field_number 
 unfolding offset_in
 place_field lent k x p q = rw (p, q, zero-add)
 
-place_party : (lent k : ℕ) (f : Numbers) → place_in lent k (party_field f) ≡ offset_of k (party_field f)
+place_party : (lent k : ℕ) (f : Numbers)
+    → place_in lent k (party_field f) ≡ offset_of k (party_field f)
 place_party lent k f = go (is_response f.kind)
   where
     go : (b : Bool) → let x = cond b target sender in place_in lent k x ≡ offset_of k x
@@ -283,7 +288,8 @@ pub message_back : (s : List ℕ) (k : ℕ) → known_kind k ≡ true
     → numbers_of (message_of (numbers_in s k)) ≡ numbers_in s k
 unfolding numbers_in more_of value_in numbers_at numbers_of message_of
 message_back s =
-    by_kind (λ (k : ℕ). numbers_of (message_of (numbers_in s k)) ≡ numbers_in s k) refl refl refl refl
+    by_kind (λ (k : ℕ). numbers_of (message_of (numbers_in s k)) ≡ numbers_in s k) refl refl refl
+    refl
     refl refl refl
 
 module _ (s : List ℕ) where

@@ -6,7 +6,8 @@ use Rattle.wire.specs.Wire.{total, numbers_at, packed}
 use Rattle.message.specs.declared.Numbers.{Numbers}
 use Rattle.message.specs.Message.{prepare_response_lease, propose_request, learn}
 use Rattle.message.specs.Faults.{Field, settings, lent_bytes, frame_length, kind_number, sender}
-use Rattle.message.specs.Faults.{target, ballot_tick, ballot_host, accepted_tick, accepted_host, owner}
+use Rattle.message.specs.Faults.{target, ballot_tick, ballot_host, accepted_tick, accepted_host}
+use Rattle.message.specs.Faults.{owner}
 use Rattle.message.specs.Faults.{keepers_end, holders_end}
 
 -- how many bytes a field takes
@@ -77,7 +78,8 @@ offset_of k x = offset_in (fields_of k) x
 -- all that were lent; the settings beside them count as a field of no bytes before the first
 abbrev pub place_in : ℕ → ℕ → Field → ℕ
 place_in lent k x =
-    cond (eqb (field_number x) (field_number lent_bytes)) lent (offset_in (settings ∷ fields_of k) x)
+    cond (eqb (field_number x) (field_number lent_bytes)) lent
+    (offset_in (settings ∷ fields_of k) x)
 
 -- where length and kind stand, and how long these two are, which every frame begins with
 abbrev pub length_offset : ℕ

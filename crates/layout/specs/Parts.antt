@@ -5,7 +5,8 @@ use Rattle.wire.specs.Wire.{number_at}
 use Rattle.message.specs.declared.Head.{Head}
 use Rattle.message.specs.declared.Lease.{Lease}
 use Rattle.message.specs.declared.Numbers.{Numbers}
-use Rattle.message.specs.Message.{prepare_request, prepare_response_lease, propose_request, head_with}
+use Rattle.message.specs.Message.{prepare_request, prepare_response_lease, propose_request}
+use Rattle.message.specs.Message.{head_with}
 use Rattle.message.specs.Faults.{Field, sender, target, ballot_tick, ballot_host, accepted_tick}
 use Rattle.message.specs.Faults.{accepted_host, owner, keepers_end}
 use Rattle.layout.specs.Layout.{width_of, kind_length, offset_of}

@@ -50,7 +50,8 @@ answers_events : (place : ℕ) (c : Cell) (es : List Event) (ls : List Line) →
 unfolding event_lines answers_in answers
 answers_events place c [] ls z = z
 answers_events place c (e ∷ es) ls z =
-    ap (λ xs. (event_of c e).answer ∷ xs) (answers_events (suc place) (cell_of (event_of c e)) es ls z)
+    ap (λ xs. (event_of c e).answer ∷ xs)
+    (answers_events (suc place) (cell_of (event_of c e)) es ls z)
 
 answers_end : (s : Script) (a r : ℕ) → answers_in (stop_lines s ++ (counts a r ∷ [])) ≡ []
 unfolding stop_lines answers_in
@@ -112,7 +113,8 @@ counted : (s : List ℕ) → All (CountsOf (answers_in (lines_of s))) (lines_of 
 unfolding lines_of
 counted s = go (leb (length s) longest_run)
   where
-    go : (b : Bool) → let ls = cond b (first_lines s (first_record s)) (stop 0 refused_long 0 ∷ []) in
+    go : (b : Bool)
+        → let ls = cond b (first_lines s (first_record s)) (stop 0 refused_long 0 ∷ []) in
         All (CountsOf (answers_in ls)) ls
     go true = first_counted s (first_record s)
     go false = lone 0 refused_long 0
@@ -150,7 +152,8 @@ opened s g clock ls e = shorts (leb (length s) longest_run) refl e
     firsts l (First.Given h d) q z = fines l h d q (eqb (opening_refusal h d) done) refl z
 
     shorts : (b : Bool) → leb (length s) longest_run ≡ b
-        → cond b (first_lines s (first_record s)) (stop 0 refused_long 0 ∷ []) ≡ settings g clock ∷ ls
+        → cond b (first_lines s (first_record s)) (stop 0 refused_long 0 ∷ [])
+        ≡ settings g clock ∷ ls
         → Opened s g clock
     shorts true l z = firsts l (first_record s) refl z
     shorts false l z = absurd (let x : ◌≡◌ {A = ℕ} 0 1 = cc in omega arith)

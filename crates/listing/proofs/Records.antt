@@ -28,7 +28,8 @@ unfolding record_at
 fault_inside s at n o e = go (ltb at (length s)) refl e
   where
     go : (b : Bool) → ltb at (length s) ≡ b
-        → cond b (record_with s at (head_of false s at)) Record.End ≡ Record.Fault n o → at < length s
+        → cond b (record_with s at (head_of false s at)) Record.End ≡ Record.Fault n o
+        → at < length s
     go true t z = ltb-true at (length s) t
     go false t z = absurd (let x : ◌≡◌ {A = ℕ} 0 1 = cc in omega arith)
 
@@ -105,7 +106,8 @@ stopped (suc k) s at p f o z = go (record_at s at) refl (λ next. stopped k s ne
         let r = h next z in
         record { past = omega (arith, record_next s at x next e, r.past); inside = r.inside }
 
-pub stopped_at : (s : List ℕ) (p f o : ℕ) → StopsAt p f o (script_of s) → Stopped s settings_length p
+pub stopped_at : (s : List ℕ) (p f o : ℕ) → StopsAt p f o (script_of s)
+    → Stopped s settings_length p
 stopped_at s p f o z = stopped (length s) s settings_length p f o z
 
 -- up to the stop the bytes before it are read alike

@@ -1,6 +1,7 @@
 -- The listing of a run file: what the file says, the lines of that, and what the function gives.
 -- Assumes nothing.
-use Rattle.std.specs.Prelude.{ℕ, zero, suc, ◌+◌, ◌≤◌, ◌≡◌, cond, List, [], ◌∷◌, ◌++◌, ltb, leb, eqb, length, take, drop}
+use Rattle.std.specs.Prelude.{ℕ, zero, suc, ◌+◌, ◌≤◌, ◌≡◌, cond, List, [], ◌∷◌, ◌++◌, ltb, leb, eqb}
+use Rattle.std.specs.Prelude.{length, take, drop}
 use Rattle.base.specs.Refusals.{done, refused_room, refused_long}
 use Rattle.rules.specs.declared.Named.{Named}
 use Rattle.state.specs.declared.Settings.{Settings}

@@ -8,7 +8,8 @@ use native.Mathlib.Omega.{arith}
 use lib.Pow.{pow_pos}
 use lib.Dec.{ltb, leb, eqb}
 use borrow.Author.Tests.{ltb-true, leb-true, eqb-true, lt-ltb, le-ltb, le-leb, eq-eqb, ne_eqb}
-use Rattle.base.specs.Refusals.{first_of, all_hold, answer_by, refused_host, refused_tick, refused_party}
+use Rattle.base.specs.Refusals.{first_of, all_hold, answer_by, refused_host, refused_tick}
+use Rattle.base.specs.Refusals.{refused_party}
 use Rattle.base.specs.Lists.{All, all_of}
 use Rattle.base.proofs.Tests.{both, unless_passed}
 use Rattle.base.proofs.Lists.{all_of_in, out_all_of}
@@ -68,7 +69,8 @@ message_numbers (Learn m) = refl
 message_numbers (ReleaseRequest h) = refl
 
 -- another target changes nothing else
-pub numbers_to : (m : Message) (h : ℕ) → numbers_of (addressed_to m h) ≡ with_target (numbers_of m) h
+pub numbers_to : (m : Message) (h : ℕ)
+    → numbers_of (addressed_to m h) ≡ with_target (numbers_of m) h
 unfolding addressed_to message_of numbers_of
 numbers_to (PrepareRequest _) h = refl
 numbers_to (PrepareResponseEmpty _) h = refl
@@ -81,7 +83,8 @@ numbers_to (ReleaseRequest _) h = refl
 -- ---- kinds
 
 -- what holds of each of the seven kinds holds of every number that is a kind
-pub by_kind : (P : ℕ → Type 0) → P prepare_request → P prepare_response_empty → P prepare_response_lease
+pub by_kind : (P : ℕ → Type 0) → P prepare_request → P prepare_response_empty
+    → P prepare_response_lease
     → P propose_request → P propose_response → P learn → P release_request → (k : ℕ)
     → known_kind k ≡ true → P k
 unfolding known_kind

@@ -66,7 +66,8 @@ known_kind k = leb prepare_request k && leb k release_request
 -- the kinds that answer a request: their target is the ballot's host, and of any other kind the
 -- sender is
 unfoldable pub is_response : ℕ → Bool
-is_response k = eqb k prepare_response_empty || (eqb k prepare_response_lease || eqb k propose_response)
+is_response k =
+    eqb k prepare_response_empty || (eqb k prepare_response_lease || eqb k propose_response)
 
 -- ---- a message as numbers
 

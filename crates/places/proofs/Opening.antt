@@ -67,7 +67,8 @@ pub new_at : (s : Settings) (clock k : ℕ) → s.n ≤ 9
 unfolding count_from
 new_at s clock k few = go (dec_lt k 9)
   where
-    go : Dec (k < 9) → get_or (map (new_host s clock) (count_from 0 9)) k blank_host ≡ new_host s clock k
+    go : Dec (k < 9)
+        → get_or (map (new_host s clock) (count_from 0 9)) k blank_host ≡ new_host s clock k
     go (yes p) = count_at (new_host s clock) 0 9 k blank_host p ∙ ap (new_host s clock) (zero-add k)
     go (no q) =
         get_or-eq_default (map (new_host s clock) (count_from 0 9)) blank_host {n = k} (omega arith)

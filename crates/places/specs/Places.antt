@@ -1,6 +1,7 @@
 -- The nine places for hosts: the limits of what they hold, how far apart their clocks are, and what
 -- opening and an advance of all leave there. Assumes nothing.
-use Rattle.std.specs.Prelude.{ℕ, zero, suc, ◌+◌, Bool, cond, List, [], ◌∷◌, map, ltb, leb, eqb, take}
+use Rattle.std.specs.Prelude.{ℕ, zero, suc, ◌+◌, Bool, cond, List, [], ◌∷◌, map, ltb, leb, eqb}
+use Rattle.std.specs.Prelude.{take}
 use Rattle.base.specs.Refusals.{first_of}
 use Rattle.base.specs.Lists.{every, all_of}
 use Rattle.message.specs.Message.{last_tick}

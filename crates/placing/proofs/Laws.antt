@@ -19,7 +19,8 @@ use Rattle.quorum.proofs.Next.{next_is}
 use Rattle.message.specs.declared.Message.{Message}
 use Rattle.message.specs.Message.{addressed_to}
 use Rattle.slots.specs.declared.Slot.{Slot}
-use Rattle.slots.specs.Slots.{slot_count, empty_slot, slot_with, is_empty, placed_each, looked_for, freed}
+use Rattle.slots.specs.Slots.{slot_count, empty_slot, slot_with, is_empty, placed_each, looked_for}
+use Rattle.slots.specs.Slots.{freed}
 use Rattle.slots.proofs.Walks.{Placing, placing_first, placing_past, placing_fill, placing_ended}
 use Rattle.placing.specs.declared.Placed.{Placed}
 use Rattle.placing.specs.Parts.{Marks, freed_in, marked_free, taken_from, eight_taken, Passed}

@@ -1,7 +1,8 @@
 -- The walk that places, as the code has it: over a list of marks, one for each slot, 0 where the
 -- slot is empty. It gives the slots to fill and their receivers. No claim rests on it: each fact is
 -- said of every list of slots that the marks are of. Assumes nothing.
-use Rattle.std.specs.Prelude.{ℕ, zero, suc, ◌+◌, ◌≤◌, ◌<◌, ◌≡◌, Bool, true, false, cond, ◌&&◌, not, ◌⊎◌, List, leb, eqb, length, get_or, set}
+use Rattle.std.specs.Prelude.{ℕ, zero, suc, ◌+◌, ◌≤◌, ◌<◌, ◌≡◌, Bool, true, false, cond, ◌&&◌, not}
+use Rattle.std.specs.Prelude.{◌⊎◌, List, leb, eqb, length, get_or, set}
 use Rattle.base.specs.Refusals.{refused_full}
 use Rattle.quorum.specs.Sets.{members}
 use Rattle.message.specs.declared.Message.{Message}

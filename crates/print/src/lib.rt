@@ -2,23 +2,24 @@
 // do.
 #![tactic(auto)]
 
-use libc::STDOUT_FILENO;
+use std::io;
+use std::io::Write;
 
 // Writes these bytes as they are.
-pub fn word(text: &[u8]) {
-    io::write_all(STDOUT_FILENO, text);
+pub fn word(rt: &impl Print, text: &[u8]) -> io::Result<()> {
+    io::writer(rt).write_all(text)
 }
 
 // A space and the number in decimal.
-pub fn number(x: u64) {
-    word(b" ");
-    io::print_decimal(STDOUT_FILENO, x);
+pub fn number(rt: &impl Print, x: u64) -> io::Result<()> {
+    word(rt, b" ")?;
+    print!(rt; "{x}")
 }
 
 // A space and the byte in hexadecimal.
-pub fn hex_byte(x: u8) {
-    word(b" ");
-    io::print_hex(STDOUT_FILENO, wide(x), 2);
+pub fn hex_byte(rt: &impl Print, x: u8) -> io::Result<()> {
+    word(rt, b" ")?;
+    print!(rt; "{:02x}", wide(x))
 }
 
 fn wide(x: u8) -> u64 {
@@ -26,6 +27,6 @@ fn wide(x: u8) -> u64 {
 }
 
 // Ends the line.
-pub fn line_end() {
-    word(b"\n");
+pub fn line_end(rt: &impl Print) -> io::Result<()> {
+    word(rt, b"\n")
 }

@@ -147,7 +147,8 @@ members_step set h n k =
 members_from_lem : (n set h k : ℕ) → h + k ≤ n → All (Member n set) (members_from set h k)
 unfolding members_from All
 members_from_lem n set h zero e = tt
-members_from_lem n set h (suc k) e = go (is_in set h) refl (members_from_lem n set (suc h) k (omega arith))
+members_from_lem n set h (suc k) e =
+    go (is_in set h) refl (members_from_lem n set (suc h) k (omega arith))
   where
     go : (b : Bool) → is_in set h ≡ b → All (Member n set) (members_from set (suc h) k)
         → All (Member n set) (cond b (h ∷ members_from set (suc h) k) (members_from set (suc h) k))

@@ -14,7 +14,8 @@ next_here set h n b e =
     let k : n - h ≡ suc (n - (h + 1)) = omega arith in
     rw (k, e)
 
-pub next_later : (set h n : ℕ) → h < n → is_in set h ≡ false → next_in set h n ≡ next_in set (h + 1) n
+pub next_later : (set h n : ℕ) → h < n → is_in set h ≡ false
+    → next_in set h n ≡ next_in set (h + 1) n
 unfolding next_from
 next_later set h n b e =
     let k : n - h ≡ suc (n - (h + 1)) = omega arith in
@@ -41,7 +42,8 @@ next_from_lem set n zero h e =
       member = λ b. absurd (omega arith);
       rest = refl;
     }
-next_from_lem set n (suc k) h e = go (is_in set h) refl (next_from_lem set n k (suc h) (omega arith))
+next_from_lem set n (suc k) h e =
+    go (is_in set h) refl (next_from_lem set n k (suc h) (omega arith))
   where
     go : (b : Bool) → is_in set h ≡ b → Next set (suc h) n (next_from set (suc h) k)
         → Next set h n (cond b h (next_from set (suc h) k))

@@ -10,6 +10,7 @@ pub record Claims : Type 0 where
   -- each host is counted once: one that is in the set does not change it, any other adds one to its
   -- size
   pub counted_again : (set h : ℕ) → is_in set h ≡ true → with_host set h ≡ set
-  pub counted_first : (set h : ℕ) → is_in set h ≡ false → size_of (with_host set h) ≡ size_of set + 1
+  pub counted_first : (set h : ℕ) → is_in set h ≡ false
+      → size_of (with_host set h) ≡ size_of set + 1
   -- and leaves every other host where it was
   pub others_stay : (set h k : ℕ) → (h ≡ k → ⊥) → is_in (with_host set h) k ≡ is_in set k

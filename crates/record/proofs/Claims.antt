@@ -17,9 +17,9 @@ use Rattle.record.proofs.Offsets.{offset_given, offset_lowest, offset_cut, offse
 use Rattle.record.proofs.Offsets.{opening_given, opening_lowest}
 
 pub claims : Claims
-unfolding first_of tests_in fails_at all_of number_at total numbers_at is_allowed widths_of record_length
-    record_fault fault_offset field_offset head_of event_with record_at first_record opening_offset
-    offset_in last_longest last_tick
+unfolding first_of tests_in fails_at all_of number_at total numbers_at is_allowed widths_of
+    record_length record_fault fault_offset field_offset head_of event_with record_at first_record
+    opening_offset offset_in last_longest last_tick
 claims = record {
   lengths = refl;
   event_order = refl;

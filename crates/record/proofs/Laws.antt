@@ -114,7 +114,8 @@ head_whole first s at k n e =
     go f (fault_offset first s at) (fault_passed first s at) (eqb f done) refl e
   where
     go : (f o : ℕ)
-        → (f ≡ done → WholeAt first s at (told_kind_at s at) (at + record_length (told_kind_at s at)))
+        → (f ≡ done → WholeAt first s at (told_kind_at s at)
+        (at + record_length (told_kind_at s at)))
         → (b : Bool) → eqb f done ≡ b
         → cond b (Head.Whole (told_kind_at s at) (at + record_length (told_kind_at s at)))
         (Head.Fault f o)
@@ -295,7 +296,8 @@ length_cut : (s : List ℕ) (n p : ℕ) → n ≤ length s → n ≤ p → n ≤
 length_cut s n p l m = rw (length-take p s) (le-min m l)
 
 pub read_shorter : (s : List ℕ) (at : ℕ) (e : Event) (next p : ℕ)
-    → record_at s at ≡ Record.Event e next → next ≤ p → record_at (take p s) at ≡ Record.Event e next
+    → record_at s at ≡ Record.Event e next → next ≤ p
+    → record_at (take p s) at ≡ Record.Event e next
 read_shorter s at e next p r m =
     let a = take p s in
     let b = drop p s in

@@ -1,5 +1,6 @@
 -- What is claimed of the records, in one place; proofs/Claims.antt proves it. Assumes nothing.
-use Rattle.std.specs.Prelude.{◌≡◌, Bool, true, false, List, [], ◌∷◌, ◌++◌, map, ℕ, ◌+◌, ◌^◌, ◌≤◌, ◌<◌, take}
+use Rattle.std.specs.Prelude.{◌≡◌, Bool, true, false, List, [], ◌∷◌, ◌++◌, map, ℕ, ◌+◌, ◌^◌, ◌≤◌}
+use Rattle.std.specs.Prelude.{◌<◌, take}
 use Rattle.base.specs.Refusals.{done, refused_cut, refused_kind, refused_length, refused_short}
 use Rattle.base.specs.Claims.{GivenAt, Lowest}
 use Rattle.message.specs.Faults.{Field}
@@ -87,10 +88,12 @@ pub record Claims : Type 0 where
   -- 17 and 4: in a record of an allowed kind a length below, and above, that of the kind
   pub too_short : (first : Bool) (s : List ℕ) (at : ℕ) → fore_length ≤ left_at s at
       → is_allowed first (told_kind_at s at) ≡ true
-      → told_length_at s at < record_length (told_kind_at s at) → record_fault first s at ≡ refused_short
+      → told_length_at s at < record_length (told_kind_at s at)
+      → record_fault first s at ≡ refused_short
   pub too_long : (first : Bool) (s : List ℕ) (at : ℕ) → fore_length ≤ left_at s at
       → is_allowed first (told_kind_at s at) ≡ true
-      → record_length (told_kind_at s at) < told_length_at s at → record_fault first s at ≡ refused_length
+      → record_length (told_kind_at s at) < told_length_at s at
+      → record_fault first s at ≡ refused_length
   -- a fault's offset is counted from its record's start, wherever the record stands
   pub from_start : map (λ (s : List ℕ). record_at (settings_bytes ++ s) 21)
       ((5 ∷ 0 ∷ 104 ∷ 0 ∷ []) ∷ (5 ∷ 0 ∷ 109 ∷ 0 ∷ 0 ∷ []) ∷ (4 ∷ 0 ∷ 104 ∷ 0 ∷ 0 ∷ []) ∷ [])
@@ -162,7 +165,8 @@ pub record Claims : Type 0 where
   pub read_shorter : (s : List ℕ) (at : ℕ) (e : Event) (next p : ℕ)
       → record_at s at ≡ Record.Event e next → next ≤ p
       → record_at (take p s) at ≡ Record.Event e next
-  pub first_longer : (s t : List ℕ) (g : Settings) (clock : ℕ) → first_record s ≡ First.Given g clock
+  pub first_longer : (s t : List ℕ) (g : Settings) (clock : ℕ)
+      → first_record s ≡ First.Given g clock
       → first_record (s ++ t) ≡ First.Given g clock
   pub first_shorter : (s : List ℕ) (g : Settings) (clock p : ℕ)
       → first_record s ≡ First.Given g clock

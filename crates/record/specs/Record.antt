@@ -1,6 +1,7 @@
 -- The records of a run file: their kinds and lengths, what is refused in one and where, and what it
 -- says. A record begins as a frame does, with its length and its kind. Assumes nothing.
-use Rattle.std.specs.Prelude.{ℕ, ◌+◌, ◌-◌, Bool, true, false, cond, ◌&&◌, List, [], ◌∷◌, ◌++◌, length, get_or, take, ltb, leb, eqb}
+use Rattle.std.specs.Prelude.{ℕ, ◌+◌, ◌-◌, Bool, true, false, cond, ◌&&◌, List, [], ◌∷◌, ◌++◌}
+use Rattle.std.specs.Prelude.{length, get_or, take, ltb, leb, eqb}
 use Rattle.base.specs.Refusals.{done, test, Refusal, refusal, answer_by, place_by}
 use Rattle.base.specs.Refusals.{refused_cut, refused_kind}
 use Rattle.wire.specs.Wire.{number_at, total, numbers_at}

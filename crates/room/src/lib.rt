@@ -1,8 +1,11 @@
-// The bytes that the programs lend. The contracts give only their lengths, so that no proof above
-// computes them.
+// The bytes that the programs lend, and reading into them. The contracts give only their lengths,
+// so that no proof above computes them.
 #![tactic(auto)]
 
-ghost use Rattle.std.specs.Prelude.{◌≡◌, length};
+ghost use Rattle.std.specs.Prelude.{◌≡◌, ◌≤◌, length, IfOk};
+
+use std::io;
+use std::io::Read;
 
 // The longest run file and one byte more.
 pub fn run_bytes() -> [u8; 65537]
@@ -16,4 +19,19 @@ pub fn listing_bytes() -> [u8; 655488]
     ensures { 655488 ≡ length result }
 {
     [0; 655488]
+}
+
+// Reads until the bytes are full or the input ends, and answers how many it read, to their start.
+pub fn fill(input: &mut impl Read, bytes: &mut [u8]) -> io::Result<usize>
+    ensures { IfOk result (λ n. n ≤ length bytes.new) }
+{
+    let mut done: usize = 0;
+    while done < bytes.len() {
+        let n = input.read(&mut bytes[done..])?;
+        if n == 0 {
+            break;
+        }
+        done += n;
+    }
+    Ok(done)
 }

@@ -3,115 +3,130 @@
 // is the program `frames`.)
 #![tactic(auto)]
 
-use libc::STDOUT_FILENO;
+use std::io::Write;
+use std::rt::Files;
+use std::{fs, io};
 
 // Writes the listing of a run file.
-fn show_run(run: &[u8]) {
+fn show_run(rt: &impl Print, run: &[u8]) -> io::Result<()> {
     let mut out = room::listing_bytes();
     let listed = player::list(run, &mut out);
     let len = listed.len;
-    io::write_all(STDOUT_FILENO, &out[..len]);
+    io::writer(rt).write_all(&out[..len])
 }
 
 // What a run file shows, and its listing.
-fn show(name: &[u8], what: &[u8]) {
-    print::word(name);
-    print::word(b": ");
-    print::word(what);
-    print::line_end();
-    let file = os::open_read(name);
-    if file < 0 {
-        os::fail(name);
-        return;
-    }
+fn show(rt: &(impl Files + Print + Eprint), name: &str, what: &[u8]) -> io::Result<()> {
+    print::word(rt, name.as_bytes())?;
+    print::word(rt, b": ")?;
+    print::word(rt, what)?;
+    print::line_end(rt)?;
+    let mut file = match fs::open(rt, name) {
+        Ok(file) => file,
+        Err(e) => return eprintln!(rt; "{name}: {e}"),
+    };
     let mut run = room::run_bytes();
-    let n = io::read_full(file, &mut run);
-    libc::close(file);
-    show_run(&run[..n]);
-    print::line_end();
+    let n = room::fill(&mut file, &mut run)?;
+    drop(file);
+    show_run(rt, &run[..n])?;
+    print::line_end(rt)
 }
 
-fn main() {
+fn main(rt: HostRuntime) -> io::Result<()> {
+    let rt = &rt;
     // Host 0 holds the lease by its own vote and host 2's, while all that was sent to host 1 is
     // held back; host 1 restarts at 105 and waits until 210. The proposal at 209, while it waits,
     // and proposal, learn and prepare at 210 change no name; then the lease passes to host 1.
     show(
-        b"held_back.run",
+        rt,
+        "held_back.run",
         b"messages held back until their receiver has restarted and rejoined",
-    );
+    )?;
     // A learn and a proposal to host 1, each delivered three times: in time, again before the end
     // (154 and 159) and at the end (155 and 160). Then the lease passes to host 2.
     show(
-        b"delivered_twice.run",
+        rt,
+        "delivered_twice.run",
         b"a learn and a proposal delivered again across a lease's end",
-    );
+    )?;
     // Clocks at 110 and 105, and hosts 0 and 1 start at 110. Host 4 promises both, so that host 0
     // is one vote short. At 160 and 155 those behind name on, and host 0, ahead, cannot take the
     // lease over; at 170 and 165 it passes to host 0.
     show(
-        b"nine_clocks.run",
+        rt,
+        "nine_clocks.run",
         b"nine clocks at the worst spread, two rounds started in one tick",
-    );
+    )?;
     // Host 1 promises to host 0, restarts, and is then handed the proposal: it waits and does not
     // vote. Host 2, which had promised nothing, makes the majority. The lease passes to host 2,
     // while host 1 waits, and to host 1.
     show(
-        b"restart_after_promise.run",
+        rt,
+        "restart_after_promise.run",
         b"a restart between a promise and its acceptance",
-    );
+    )?;
     // Host 2 is down, and host 0's lease has ended for host 1 alone, at 160 and S ahead. Host 0's
     // reply with it counts as empty, and host 1 names itself.
     show(
-        b"fast_clock.run",
+        rt,
+        "fast_clock.run",
         b"a fast clock asks just after a lease has ended for it alone",
-    );
+    )?;
     // Host 1 is told of a lease and then of one that has ended by its clock, of a lower ballot, and
     // later of a higher one: what it kept stays, and is proposed.
     show(
-        b"ended_replies.run",
+        rt,
+        "ended_replies.run",
         b"replies whose lease has ended, beside one that is kept",
-    );
+    )?;
     // Host 0 lets go while it proposes to renew. The late votes, a majority, find no round, and the
     // late proposal is below the promise of the release: nothing keeps host 1 from the lease.
     show(
-        b"release_in_a_renewal.run",
+        rt,
+        "release_in_a_renewal.run",
         b"a release while a renewal is under way",
-    );
+    )?;
     // Host 2 asks before the release comes to host 1, and proposes host 0's lease once more. Host 0
     // is told of it and does not name itself; the others name it up to 155.
     show(
-        b"release_overtaken.run",
+        rt,
+        "release_overtaken.run",
         b"a release that is overtaken by another host's round",
-    );
+    )?;
     // Host 2 waits when host 0 lets go. When it is back, it promises an older prepare request, and
     // then an old copy of the release.
-    show(b"release_to_waiting.run", b"a release to a waiting host");
+    show(rt, "release_to_waiting.run", b"a release to a waiting host")?;
     // Host 2 promises the release, and then names host 0 by a late learn. Host 1 takes the next
     // lease; the release, delivered again, drops that name.
     show(
-        b"release_twice.run",
+        rt,
+        "release_twice.run",
         b"a release delivered twice, and a learn of its lease in between",
-    );
+    )?;
     // Host 0 has let go and holds the next lease when its release comes to host 2, which names it.
     show(
-        b"release_after_next.run",
+        rt,
+        "release_after_next.run",
         b"a release that comes after its sender's next lease",
-    );
+    )?;
     // With every slot full, host 0 is handed the reply that makes its majority, and later the
     // deciding vote: both deliveries are refused, the message stays in its slot, and the same one
     // is delivered when there is room.
     show(
-        b"no_room.run",
+        rt,
+        "no_room.run",
         b"deliveries that end in 13, for want of room for what they send",
-    );
+    )?;
     // Events of an opened cell: each number that one can be refused by.
-    show(b"answers.run", b"the answers 5 and 9 to 15");
+    show(rt, "answers.run", b"the answers 5 and 9 to 15")?;
     show(
-        b"release_answers.run",
+        rt,
+        "release_answers.run",
         b"the answers of a release: 0, 5, 9, 10, 13 and 18",
-    );
+    )?;
     show(
-        b"last_tick.run",
+        rt,
+        "last_tick.run",
         b"15 at the last tick that a clock may have",
-    );
+    )
 }

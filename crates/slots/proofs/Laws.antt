@@ -92,7 +92,8 @@ not_lowest (s ∷ ss) (suc j) f q =
 placed_leaves : (ss : List Slot) (m : Message) (j : ℕ) → Filled ss j
     → get_or (placed ss m) j empty_slot ≡ get_or ss j empty_slot
 unfolding placed
-placed_leaves ss m j f = get_or-set_other ss (lowest ss) j (slot_with m) empty_slot (not_lowest ss j f)
+placed_leaves ss m j f =
+    get_or-set_other ss (lowest ss) j (slot_with m) empty_slot (not_lowest ss j f)
 
 pub placed_each_leaves : (ss : List Slot) (m : Message) (hs : List ℕ) (j : ℕ) → Filled ss j
     → get_or (placed_each ss m hs) j empty_slot ≡ get_or ss j empty_slot

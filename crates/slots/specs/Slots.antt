@@ -1,6 +1,7 @@
 -- The messages under way: which slots are empty, the lowest of them, placing a message, how many
 -- slots that looks at, and freeing a slot. Assumes nothing.
-use Rattle.std.specs.Prelude.{ℕ, zero, suc, Bool, true, false, cond, ◌&&◌, not, List, [], ◌∷◌, ltb, leb, eqb, set, replicate}
+use Rattle.std.specs.Prelude.{ℕ, zero, suc, Bool, true, false, cond, ◌&&◌, not, List, [], ◌∷◌, ltb}
+use Rattle.std.specs.Prelude.{leb, eqb, set, replicate}
 use Rattle.base.specs.Refusals.{done, unless, refused_slot, refused_full}
 use Rattle.base.specs.Lists.{every}
 use Rattle.quorum.specs.Sets.{members}

@@ -59,7 +59,8 @@ kept_reply n (as_sent (earlier _)) p q = p
 kept_reply n (as_sent (later _)) p q = q
 kept_reply n (as_empty _ _) p q = p
 
-pub kept_replied : (n set h : ℕ) → is_below set n ≡ true → h < n → is_below (with_host set h) n ≡ true
+pub kept_replied : (n set h : ℕ) → is_below set n ≡ true → h < n
+    → is_below (with_host set h) n ≡ true
 kept_replied n set h e b =
     lt-ltb (with_host set h) (2 ^ n) (with_below n set h (ltb-true set (2 ^ n) e) b)
 
@@ -88,4 +89,5 @@ last_end_lem = refl
 
 pub own_last : (s : Settings) (tick duration : ℕ) → settings_ok s ≡ true → tick ≤ last_tick
     → duration + s.spread ≤ s.longest → (own_end tick duration s.spread).0 ≤ last_end
-own_last s tick duration e t d = let i = settings_in s e in omega (arith, last_end_lem, i.short, t, d)
+own_last s tick duration e t d =
+    let i = settings_in s e in omega (arith, last_end_lem, i.short, t, d)

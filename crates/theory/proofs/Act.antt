@@ -99,7 +99,8 @@ module _ {𝒞 : Setup} where
         go x b (inl q) = inl q
         go x b (inr q) = inr (rw q.0 q.1)
 
-        prop : (b o e : ℕ) → Proposed s b o e ⊎ (m ≡ some (propose_request b o e)) → Proposed s b o e
+        prop : (b o e : ℕ) → Proposed s b o e ⊎ (m ≡ some (propose_request b o e))
+            → Proposed s b o e
             ⊎ ((x : ℕ) → Voted (put s h v m) x b → ⊥)
         prop b o e (inl q) = inl q
         prop b o e (inr q) = inr (unvoted b o e q)

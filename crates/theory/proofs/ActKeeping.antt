@@ -167,7 +167,8 @@ module _ {𝒞 : Setup} where
         unsaid : (c o e : ℕ) → Proposed (put s h w m) c o e → Proposed s c o e
         unsaid = proposed_before I h w m (omega arith)
 
-        topped : (c o' e' : ℕ) → Voted s h c ⊎ (m ≡ some (propose_response h c)) → Proposed s c o' e'
+        topped : (c o' e' : ℕ) → Voted s h c ⊎ (m ≡ some (propose_response h c))
+            → Proposed s c o' e'
             → Live (put s h w m) c o' e' →
             v.wait < e' → c < b + 1
         topped c o' e' (inl x) p k l =

@@ -132,7 +132,8 @@ module _ {𝒞 : Setup} where
         held I h (with_round v r) none F (λ m q. absurd (none-ne-some m q))
         (host_with_round v.last r none F (omega arith) (omega arith)
         (round_kept I (later I h (with_round v r) none F) h v.last r
-        (mute (with_round v r) none (omega arith) h) (firm (with_round v r) none (omega arith) h) k))
+        (mute (with_round v r) none (omega arith) h) (firm (with_round v r) none (omega arith) h)
+        k))
         (λ b o e q. absurd (omega (arith, ap kind q)))
 
     -- a step that names n only, with no message

@@ -237,7 +237,8 @@ module _ {𝒞 : Setup} where
         (b d : ℕ) (R : Hosts) → tick b ≡ next_tick v c → proposer b ≡ h → ((x : ℕ) → In x R → ⊥)
         → v.wait ≤ c →
         NewTick v c → 1 ≤ d → d + S ≤ T →
-        Act c v l h (with_asking v (next_tick v c + 1) (asking b d R none)) (some (prepare_request b))
+        Act c v l h (with_asking v (next_tick v c + 1) (asking b d R none))
+        (some (prepare_request b))
     promise :
         (b : ℕ) → Memᴰ (prepare_request b) l → v.wait ≤ c → Above v b →
         Act c v l h (with_vote v (b + 1) v.accepted) (some (prepare_response h b v.accepted))

@@ -53,7 +53,8 @@ unfolding number_at
 number_one s at = omega arith
 
 -- a number past a list's first part stands in the second
-pub number_past : (p q : List ℕ) (at w : ℕ) → number_at (p ++ q) (length p + at) w ≡ number_at q at w
+pub number_past : (p q : List ℕ) (at w : ℕ)
+    → number_at (p ++ q) (length p + at) w ≡ number_at q at w
 unfolding number_at
 number_past p q at zero = refl
 number_past p q at (suc w) =

@@ -86,7 +86,8 @@ unfolding clock_after last_tick
 returns-in-AdvanceAll c =
     rw (
       c.ticks_of-d.ensures,
-      (let x : leb (ticks_of c.args.e) last_tick ≡ true = rw (← c.ticks_of-d.ensures, le-leb _ _ c.if-d-gt-LAST_TICK.false) in x),
+      (let x : leb (ticks_of c.args.e) last_tick ≡ true =
+          rw (← c.ticks_of-d.ensures, le-leb _ _ c.if-d-gt-LAST_TICK.false) in x),
       c.in-AdvanceAll.is,
     )
 
@@ -96,36 +97,61 @@ returns-in-AdvanceOne c =
     rw (
       c.clock_with.ensures,
       c.ticks_of-d.ensures,
-      (let x : leb (ticks_of c.args.e) last_tick ≡ true = rw (← c.ticks_of-d.ensures, le-leb _ _ c.if-d-gt-LAST_TICK.false) in x),
+      (let x : leb (ticks_of c.args.e) last_tick ≡ true =
+          rw (← c.ticks_of-d.ensures, le-leb _ _ c.if-d-gt-LAST_TICK.false) in x),
       c.in-AdvanceOne.is,
     )
 
 pub returns-in-Start : goal.returns-in-Start
 unfolding clock_after last_tick
 returns-in-Start c =
-    rw ((let x : leb (ticks_of c.args.e) last_tick ≡ true = rw (← c.ticks_of-d.ensures, le-leb _ _ c.if-d-gt-LAST_TICK.false) in x), c.in-Start.is)
+    rw (
+      (let x : leb (ticks_of c.args.e) last_tick ≡ true =
+          rw (← c.ticks_of-d.ensures, le-leb _ _ c.if-d-gt-LAST_TICK.false) in x),
+      c.in-Start.is,
+    )
 
 pub returns-in-Deliver : goal.returns-in-Deliver
 unfolding clock_after last_tick
 returns-in-Deliver c =
-    rw ((let x : leb (ticks_of c.args.e) last_tick ≡ true = rw (← c.ticks_of-d.ensures, le-leb _ _ c.if-d-gt-LAST_TICK.false) in x), c.in-Deliver.is)
+    rw (
+      (let x : leb (ticks_of c.args.e) last_tick ≡ true =
+          rw (← c.ticks_of-d.ensures, le-leb _ _ c.if-d-gt-LAST_TICK.false) in x),
+      c.in-Deliver.is,
+    )
 
 pub returns-in-Lose : goal.returns-in-Lose
 unfolding clock_after last_tick
 returns-in-Lose c =
-    rw ((let x : leb (ticks_of c.args.e) last_tick ≡ true = rw (← c.ticks_of-d.ensures, le-leb _ _ c.if-d-gt-LAST_TICK.false) in x), c.in-Lose.is)
+    rw (
+      (let x : leb (ticks_of c.args.e) last_tick ≡ true =
+          rw (← c.ticks_of-d.ensures, le-leb _ _ c.if-d-gt-LAST_TICK.false) in x),
+      c.in-Lose.is,
+    )
 
 pub returns-in-Repeat : goal.returns-in-Repeat
 unfolding clock_after last_tick
 returns-in-Repeat c =
-    rw ((let x : leb (ticks_of c.args.e) last_tick ≡ true = rw (← c.ticks_of-d.ensures, le-leb _ _ c.if-d-gt-LAST_TICK.false) in x), c.in-Repeat.is)
+    rw (
+      (let x : leb (ticks_of c.args.e) last_tick ≡ true =
+          rw (← c.ticks_of-d.ensures, le-leb _ _ c.if-d-gt-LAST_TICK.false) in x),
+      c.in-Repeat.is,
+    )
 
 pub returns-in-Restart : goal.returns-in-Restart
 unfolding clock_after last_tick
 returns-in-Restart c =
-    rw ((let x : leb (ticks_of c.args.e) last_tick ≡ true = rw (← c.ticks_of-d.ensures, le-leb _ _ c.if-d-gt-LAST_TICK.false) in x), c.in-Restart.is)
+    rw (
+      (let x : leb (ticks_of c.args.e) last_tick ≡ true =
+          rw (← c.ticks_of-d.ensures, le-leb _ _ c.if-d-gt-LAST_TICK.false) in x),
+      c.in-Restart.is,
+    )
 
 pub returns-in-Release : goal.returns-in-Release
 unfolding clock_after last_tick
 returns-in-Release c =
-    rw ((let x : leb (ticks_of c.args.e) last_tick ≡ true = rw (← c.ticks_of-d.ensures, le-leb _ _ c.if-d-gt-LAST_TICK.false) in x), c.in-Release.is)
+    rw (
+      (let x : leb (ticks_of c.args.e) last_tick ≡ true =
+          rw (← c.ticks_of-d.ensures, le-leb _ _ c.if-d-gt-LAST_TICK.false) in x),
+      c.in-Release.is,
+    )

@@ -1,5 +1,5 @@
--- `deliver_step` is `deliver_act`: 12 from an empty slot; else host and message are as `on_delivery`
--- asks, by the contract.
+-- `deliver_step` is `deliver_act`: 12 from an empty slot; else host and message are as
+-- `on_delivery` asks, by the contract.
 use borrow.Author.Rules.{rules}
 use Rattle.acts.specs.Parts.{HandedIn, deliver_act}
 use Rattle.acts.proofs.deliver_step.Goals as goal

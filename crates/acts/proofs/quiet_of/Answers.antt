@@ -1,5 +1,5 @@
--- `quiet_of` is `quiet_of`, arm by arm; the message that is repeated has its target below 16, by the
--- contract.
+-- `quiet_of` is `quiet_of`, arm by arm; the message that is repeated has its target below 16, by
+-- the contract.
 use borrow.Author.Rules.{rules}
 use Rattle.acts.specs.Parts.{quiet_of}
 use Rattle.acts.proofs.quiet_of.Goals as goal

@@ -11,7 +11,8 @@ use Rattle.message.specs.Message.{last_tick}
 use Rattle.state.specs.StateLimits.{settings_ok}
 use Rattle.cell.specs.Events.{opening_refusal, opening_of}
 use Rattle.cell.proofs.open.Goals as goal
-use Rattle.cell.proofs.open.Goals.{Else-clock-gt-LAST_TICK, Else-not-settings_ok, Then-clock-gt-LAST_TICK}
+use Rattle.cell.proofs.open.Goals.{Else-clock-gt-LAST_TICK, Else-not-settings_ok}
+use Rattle.cell.proofs.open.Goals.{Then-clock-gt-LAST_TICK}
 
 fits : (c : Else-not-settings_ok) → settings_ok c.args.s ≡ true
 fits c =
@@ -56,7 +57,8 @@ unfolding opening_of opening_refusal settings_ok first_of all_of last_tick
 least-requires-then-clock-gt-LAST_TICK c =
     search rules
 
-pub answered_with-requires-then-clock-gt-LAST_TICK : goal.answered_with-requires-then-clock-gt-LAST_TICK
+pub answered_with-requires-then-clock-gt-LAST_TICK :
+    goal.answered_with-requires-then-clock-gt-LAST_TICK
 unfolding opening_of opening_refusal settings_ok first_of all_of last_tick
 answered_with-requires-then-clock-gt-LAST_TICK c =
     search rules

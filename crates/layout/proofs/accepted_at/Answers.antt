@@ -13,4 +13,5 @@ returns-then-kind-eq-PREPARE_RESPONSE_LEASE c =
 pub returns-else-kind-eq-PREPARE_RESPONSE_LEASE : goal.returns-else-kind-eq-PREPARE_RESPONSE_LEASE
 unfolding more_of offset_in
 returns-else-kind-eq-PREPARE_RESPONSE_LEASE c =
-    rw c.kind_length.ensures (no_accepted _ (ne_eqb _ _ c.if-kind-eq-PREPARE_RESPONSE_LEASE.false)).0
+    rw c.kind_length.ensures
+    (no_accepted _ (ne_eqb _ _ c.if-kind-eq-PREPARE_RESPONSE_LEASE.false)).0

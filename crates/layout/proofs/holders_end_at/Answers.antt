@@ -1,4 +1,5 @@
--- `holders_end_at`: where a learn message has its end; past the end of any other (`no_holders_lem`).
+-- `holders_end_at`: where a learn message has its end; past the end of any other
+-- (`no_holders_lem`).
 use borrow.Author.Tests.{ne_eqb}
 use Rattle.layout.specs.Layout.{more_of, offset_in}
 use Rattle.layout.proofs.Laws.{no_holders_lem}

@@ -44,7 +44,8 @@ byte-requires c =
     let h = rw c.if-kind-eq-PROPOSE_REQUEST.true at c.requires in
     omega arith
 
-pub numbers_with-requires-then-kind-eq-PROPOSE_REQUEST : goal.numbers_with-requires-then-kind-eq-PROPOSE_REQUEST
+pub numbers_with-requires-then-kind-eq-PROPOSE_REQUEST :
+    goal.numbers_with-requires-then-kind-eq-PROPOSE_REQUEST
 unfolding kind_length numbers_in more_of value_in numbers_at total offset_in
 numbers_with-requires-then-kind-eq-PROPOSE_REQUEST c =
     search rules

@@ -36,7 +36,12 @@ pub put_value-requires-2 : goal.put_value-requires-2
 unfolding more_of le packed
 put_value-requires-2 c =
     let p = c.requires in
-    omega (arith, longer _ (λ e. c.if-len-eq-HEAD_LENGTH.false (c.requires.long ∙ e)), p.long, p.room)
+    omega (
+      arith,
+      longer _ (λ e. c.if-len-eq-HEAD_LENGTH.false (c.requires.long ∙ e)),
+      p.long,
+      p.room,
+    )
 
 pub returns : goal.returns
 unfolding more_of le packed

@@ -14,7 +14,11 @@ returns-then-f-gt-LAST_TICK c =
 pub returns-then-f-gt-LAST_TICK-2 : goal.returns-then-f-gt-LAST_TICK-2
 unfolding fails_at more_of offset_in last_tick last_end
 returns-then-f-gt-LAST_TICK-2 c =
-    rw (c.accepted_at.ensures, le-leb _ _ c.if-f-gt-LAST_TICK.false, lt-leb _ _ c.if-f-gt-LAST_TICK-2.true)
+    rw (
+      c.accepted_at.ensures,
+      le-leb _ _ c.if-f-gt-LAST_TICK.false,
+      lt-leb _ _ c.if-f-gt-LAST_TICK-2.true,
+    )
 
 pub returns-then-f-gt-LAST_END : goal.returns-then-f-gt-LAST_END
 unfolding fails_at more_of offset_in last_tick last_end

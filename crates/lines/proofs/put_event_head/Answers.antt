@@ -16,7 +16,8 @@ unfolding event_head
 put_decimal-a-requires c =
     let l = (let x : let a = c.args in
     (length (decimal a.place) ≤ 5)
-    × ((length (decimal a.kind) ≤ 3) × (length (decimal a.answer) ≤ 3)) = let small = c.requires.0 in (
+    × ((length (decimal a.kind) ≤ 3) × (length (decimal a.answer) ≤ 3)) =
+    let small = c.requires.0 in (
       decimal_most 4 _ small.0,
       (decimal_most 2 _ small.1, most_8 _ c.ranges.answer.fits),
     ) in x) in
@@ -27,7 +28,8 @@ unfolding event_head
 put_spaced-b-requires c =
     let l = (let x : let a = c.args in
     (length (decimal a.place) ≤ 5)
-    × ((length (decimal a.kind) ≤ 3) × (length (decimal a.answer) ≤ 3)) = let small = c.requires.0 in (
+    × ((length (decimal a.kind) ≤ 3) × (length (decimal a.answer) ≤ 3)) =
+    let small = c.requires.0 in (
       decimal_most 4 _ small.0,
       (decimal_most 2 _ small.1, most_8 _ c.ranges.answer.fits),
     ) in x) in
@@ -38,7 +40,8 @@ unfolding event_head
 put_spaced-requires c =
     let l = (let x : let a = c.args in
     (length (decimal a.place) ≤ 5)
-    × ((length (decimal a.kind) ≤ 3) × (length (decimal a.answer) ≤ 3)) = let small = c.requires.0 in (
+    × ((length (decimal a.kind) ≤ 3) × (length (decimal a.answer) ≤ 3)) =
+    let small = c.requires.0 in (
       decimal_most 4 _ small.0,
       (decimal_most 2 _ small.1, most_8 _ c.ranges.answer.fits),
     ) in x) in
@@ -54,7 +57,8 @@ unfolding event_head
 returns c =
     let l = (let x : let a = c.args in
     (length (decimal a.place) ≤ 5)
-    × ((length (decimal a.kind) ≤ 3) × (length (decimal a.answer) ≤ 3)) = let small = c.requires.0 in (
+    × ((length (decimal a.kind) ≤ 3) × (length (decimal a.answer) ≤ 3)) =
+    let small = c.requires.0 in (
       decimal_most 4 _ small.0,
       (decimal_most 2 _ small.1, most_8 _ c.ranges.answer.fits),
     ) in x) in

@@ -57,5 +57,7 @@ pub returns-in-One : goal.returns-in-One
 unfolding name_text
 returns-in-One c =
     let p = c.put_decimal.ensures in
-    let l = (let x : length (decimal c.in-One.k.owner) ≤ 3 = most_8 _ (search rules) in x) in
-    (rw ((let x : name_text c.args.m ≡ decimal c.in-One.k.owner = rw c.in-One.is in x)) p, omega (arith, p.past))
+    let l = (let x : length (decimal c.in-One.k.owner) ≤ 3 = most_8 _ (search rules) in x) in (
+      rw ((let x : name_text c.args.m ≡ decimal c.in-One.k.owner = rw c.in-One.is in x)) p,
+      omega (arith, p.past),
+    )

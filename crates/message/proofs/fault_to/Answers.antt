@@ -1,4 +1,5 @@
--- `fault_to` is `fault_to`: the common tests, with receivers below n and the party of `party_fits_to`.
+-- `fault_to` is `fault_to`: the common tests, with receivers below n and the party of
+-- `party_fits_to`.
 use Rattle.message.specs.Faults.{fault_to}
 use Rattle.message.proofs.fault_to.Goals as goal
 

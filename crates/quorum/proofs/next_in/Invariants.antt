@@ -6,7 +6,8 @@ use Rattle.quorum.specs.Parts.{next_in}
 use Rattle.quorum.proofs.next_in.Given as goal
 
 abbrev pub invariant-loop-h : goal.invariant-loop-h
-invariant-loop-h l = (l.n < 16) × (l.h ≤ l.n) × (next_in l.set l.initial.h l.n ≡ next_in l.set l.h l.n)
+invariant-loop-h l =
+    (l.n < 16) × (l.h ≤ l.n) × (next_in l.set l.initial.h l.n ≡ next_in l.set l.h l.n)
 
 abbrev pub decreases-loop-h : goal.decreases-loop-h
 decreases-loop-h l = l.n - l.h

@@ -30,7 +30,8 @@ overflow_add-at-in-102 c =
 pub byte-host-requires : goal.byte-host-requires
 unfolding record_length widths_of total numbers_at event_with
 byte-host-requires c =
-    (let x : c.args.at + 4 < length c.args.run.now = omega (arith, c.requires, length_least c.args.kind) in x)
+    (let x : c.args.at + 4 < length c.args.run.now =
+    omega (arith, c.requires, length_least c.args.kind) in x)
 
 pub overflow_add-at-in-102-2 : goal.overflow_add-at-in-102-2
 unfolding record_length widths_of total numbers_at event_with
@@ -51,7 +52,8 @@ overflow_add-at-in-103 c =
 pub byte-host-requires-in-103 : goal.byte-host-requires-in-103
 unfolding record_length widths_of total numbers_at event_with
 byte-host-requires-in-103 c =
-    (let x : c.args.at + 4 < length c.args.run.now = omega (arith, c.requires, length_least c.args.kind) in x)
+    (let x : c.args.at + 4 < length c.args.run.now =
+    omega (arith, c.requires, length_least c.args.kind) in x)
 
 pub overflow_add-at-in-103-2 : goal.overflow_add-at-in-103-2
 unfolding record_length widths_of total numbers_at event_with
@@ -77,7 +79,8 @@ overflow_add-at-in-104 c =
 pub byte-requires : goal.byte-requires
 unfolding record_length widths_of total numbers_at event_with
 byte-requires c =
-    (let x : c.args.at + 4 < length c.args.run.now = omega (arith, c.requires, length_least c.args.kind) in x)
+    (let x : c.args.at + 4 < length c.args.run.now =
+    omega (arith, c.requires, length_least c.args.kind) in x)
 
 pub overflow_add-at-in-105 : goal.overflow_add-at-in-105
 unfolding record_length widths_of total numbers_at event_with
@@ -87,7 +90,8 @@ overflow_add-at-in-105 c =
 pub byte-requires-in-105 : goal.byte-requires-in-105
 unfolding record_length widths_of total numbers_at event_with
 byte-requires-in-105 c =
-    (let x : c.args.at + 4 < length c.args.run.now = omega (arith, c.requires, length_least c.args.kind) in x)
+    (let x : c.args.at + 4 < length c.args.run.now =
+    omega (arith, c.requires, length_least c.args.kind) in x)
 
 pub overflow_add-at-in-106 : goal.overflow_add-at-in-106
 unfolding record_length widths_of total numbers_at event_with
@@ -97,7 +101,8 @@ overflow_add-at-in-106 c =
 pub byte-requires-in-106 : goal.byte-requires-in-106
 unfolding record_length widths_of total numbers_at event_with
 byte-requires-in-106 c =
-    (let x : c.args.at + 4 < length c.args.run.now = omega (arith, c.requires, length_least c.args.kind) in x)
+    (let x : c.args.at + 4 < length c.args.run.now =
+    omega (arith, c.requires, length_least c.args.kind) in x)
 
 pub overflow_add-at-in-107 : goal.overflow_add-at-in-107
 unfolding record_length widths_of total numbers_at event_with
@@ -107,7 +112,8 @@ overflow_add-at-in-107 c =
 pub byte-requires-in-107 : goal.byte-requires-in-107
 unfolding record_length widths_of total numbers_at event_with
 byte-requires-in-107 c =
-    (let x : c.args.at + 4 < length c.args.run.now = omega (arith, c.requires, length_least c.args.kind) in x)
+    (let x : c.args.at + 4 < length c.args.run.now =
+    omega (arith, c.requires, length_least c.args.kind) in x)
 
 pub overflow_add-at-in_default : goal.overflow_add-at-in_default
 unfolding record_length widths_of total numbers_at event_with
@@ -117,7 +123,8 @@ overflow_add-at-in_default c =
 pub byte-requires-in_default : goal.byte-requires-in_default
 unfolding record_length widths_of total numbers_at event_with
 byte-requires-in_default c =
-    (let x : c.args.at + 4 < length c.args.run.now = omega (arith, c.requires, length_least c.args.kind) in x)
+    (let x : c.args.at + 4 < length c.args.run.now =
+    omega (arith, c.requires, length_least c.args.kind) in x)
 
 pub returns-in-101 : goal.returns-in-101
 unfolding record_length widths_of total numbers_at event_with

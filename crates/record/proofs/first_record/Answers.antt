@@ -49,12 +49,20 @@ returns-in_default c =
 pub byte-n-requires : goal.byte-n-requires
 unfolding first_record widths_of numbers_at
 byte-n-requires c =
-    omega (arith, (let x : 21 ≤ length c.args.run.now = first_whole _ _ _ (told c.head_at-head.ensures c.in-Whole.is) in x))
+    omega (
+      arith,
+      (let x : 21 ≤ length c.args.run.now =
+          first_whole _ _ _ (told c.head_at-head.ensures c.in-Whole.is) in x),
+    )
 
 pub get-longest-requires : goal.get-longest-requires
 unfolding first_record widths_of numbers_at
 get-longest-requires c =
-    let l = (let x : 21 ≤ length c.args.run.now = first_whole _ _ _ (told c.head_at-head.ensures c.in-Whole.is) in x) in (omega arith, omega arith)
+    let l = (let x : 21 ≤ length c.args.run.now =
+    first_whole _ _ _ (told c.head_at-head.ensures c.in-Whole.is) in x) in (
+      omega arith,
+      omega arith,
+    )
 
 pub overflow_cast-longest : goal.overflow_cast-longest
 unfolding first_record widths_of numbers_at
@@ -64,7 +72,11 @@ overflow_cast-longest c =
 pub get-spread-requires : goal.get-spread-requires
 unfolding first_record widths_of numbers_at
 get-spread-requires c =
-    let l = (let x : 21 ≤ length c.args.run.now = first_whole _ _ _ (told c.head_at-head.ensures c.in-Whole.is) in x) in (omega arith, omega arith)
+    let l = (let x : 21 ≤ length c.args.run.now =
+    first_whole _ _ _ (told c.head_at-head.ensures c.in-Whole.is) in x) in (
+      omega arith,
+      omega arith,
+    )
 
 pub overflow_cast-spread : goal.overflow_cast-spread
 unfolding first_record widths_of numbers_at
@@ -74,7 +86,11 @@ overflow_cast-spread c =
 pub get-clock-requires : goal.get-clock-requires
 unfolding first_record widths_of numbers_at
 get-clock-requires c =
-    let l = (let x : 21 ≤ length c.args.run.now = first_whole _ _ _ (told c.head_at-head.ensures c.in-Whole.is) in x) in (omega arith, omega arith)
+    let l = (let x : 21 ≤ length c.args.run.now =
+    first_whole _ _ _ (told c.head_at-head.ensures c.in-Whole.is) in x) in (
+      omega arith,
+      omega arith,
+    )
 
 pub returns : goal.returns
 unfolding first_record widths_of numbers_at

@@ -57,7 +57,8 @@ unfolding head_of record_fault fault_offset first_of all_of tests_in fails_at of
 returns-then-not-is_allowed c =
     let k = c.is_allowed in
     rw (
-      (let x : let a = c.args in leb 4 (left_at a.run.now a.at) ≡ true = le-leb _ _ c.if-left-lt-FORE_LENGTH.false in x),
+      (let x : let a = c.args in leb 4 (left_at a.run.now a.at) ≡ true =
+          le-leb _ _ c.if-left-lt-FORE_LENGTH.false in x),
       ← c.get-kind.ensures.0,
       ← k.ensures,
       c.if-not-is_allowed.true,
@@ -83,13 +84,15 @@ unfolding head_of record_fault fault_offset first_of all_of tests_in fails_at of
 returns-then-told-len c =
     let k = c.before.before in
     rw (
-      (let x : let a = c.args in leb 4 (left_at a.run.now a.at) ≡ true = le-leb _ _ c.if-left-lt-FORE_LENGTH.false in x),
+      (let x : let a = c.args in leb 4 (left_at a.run.now a.at) ≡ true =
+          le-leb _ _ c.if-left-lt-FORE_LENGTH.false in x),
       (let x : let a = c.args in
           is_allowed a.first (told_kind_at a.run.now a.at) ≡ true = let k = c.is_allowed in
           let e = told k.ensures (c.if-not-is_allowed.false) in
           rw (← c.get-kind.ensures.0) e in x),
       (let x : let a = c.args in
-          record_length (told_kind_at a.run.now a.at) ≡ c.record_length-len.result = let k = c.get-kind in
+          record_length (told_kind_at a.run.now a.at) ≡ c.record_length-len.result =
+          let k = c.get-kind in
           sym (c.record_length-len.ensures ∙ ap record_length k.ensures.0) in x),
       ← c.get-told.ensures.0,
       lt-leb _ _ c.if-told-len.true,
@@ -100,16 +103,19 @@ unfolding head_of record_fault fault_offset first_of all_of tests_in fails_at of
 returns-then-len-told c =
     let k = c.before.before.before in
     rw (
-      (let x : let a = c.args in leb 4 (left_at a.run.now a.at) ≡ true = le-leb _ _ c.if-left-lt-FORE_LENGTH.false in x),
+      (let x : let a = c.args in leb 4 (left_at a.run.now a.at) ≡ true =
+          le-leb _ _ c.if-left-lt-FORE_LENGTH.false in x),
       (let x : let a = c.args in
           is_allowed a.first (told_kind_at a.run.now a.at) ≡ true = let k = c.is_allowed in
           let e = told k.ensures (c.if-not-is_allowed.false) in
           rw (← c.get-kind.ensures.0) e in x),
       (let x : let a = c.args in
-          record_length (told_kind_at a.run.now a.at) ≡ c.record_length-len.result = let k = c.get-kind in
+          record_length (told_kind_at a.run.now a.at) ≡ c.record_length-len.result =
+          let k = c.get-kind in
           sym (c.record_length-len.ensures ∙ ap record_length k.ensures.0) in x),
       (let x : let a = c.args in
-          leb c.record_length-len.result (told_length_at a.run.now a.at) ≡ true = rw (← c.get-told.ensures.0) (le-leb _ _ c.if-told-len.false) in x),
+          leb c.record_length-len.result (told_length_at a.run.now a.at) ≡ true =
+          rw (← c.get-told.ensures.0) (le-leb _ _ c.if-told-len.false) in x),
       ← c.get-told.ensures.0,
       lt-leb _ _ c.if-len-told.true,
     )
@@ -119,18 +125,22 @@ unfolding head_of record_fault fault_offset first_of all_of tests_in fails_at of
 returns-then-left-len c =
     let k = c.before.before.before.before in
     rw (
-      (let x : let a = c.args in leb 4 (left_at a.run.now a.at) ≡ true = le-leb _ _ c.if-left-lt-FORE_LENGTH.false in x),
+      (let x : let a = c.args in leb 4 (left_at a.run.now a.at) ≡ true =
+          le-leb _ _ c.if-left-lt-FORE_LENGTH.false in x),
       (let x : let a = c.args in
           is_allowed a.first (told_kind_at a.run.now a.at) ≡ true = let k = c.is_allowed in
           let e = told k.ensures (c.if-not-is_allowed.false) in
           rw (← c.get-kind.ensures.0) e in x),
       (let x : let a = c.args in
-          record_length (told_kind_at a.run.now a.at) ≡ c.record_length-len.result = let k = c.get-kind in
+          record_length (told_kind_at a.run.now a.at) ≡ c.record_length-len.result =
+          let k = c.get-kind in
           sym (c.record_length-len.ensures ∙ ap record_length k.ensures.0) in x),
       (let x : let a = c.args in
-          leb c.record_length-len.result (told_length_at a.run.now a.at) ≡ true = rw (← c.get-told.ensures.0) (le-leb _ _ c.if-told-len.false) in x),
+          leb c.record_length-len.result (told_length_at a.run.now a.at) ≡ true =
+          rw (← c.get-told.ensures.0) (le-leb _ _ c.if-told-len.false) in x),
       (let x : let a = c.args in
-          leb (told_length_at a.run.now a.at) c.record_length-len.result ≡ true = rw (← c.get-told.ensures.0) (le-leb _ _ c.if-len-told.false) in x),
+          leb (told_length_at a.run.now a.at) c.record_length-len.result ≡ true =
+          rw (← c.get-told.ensures.0) (le-leb _ _ c.if-len-told.false) in x),
       lt-leb _ _ c.if-left-len.true,
     )
 
@@ -143,18 +153,22 @@ pub returns : goal.returns
 unfolding head_of record_fault fault_offset first_of all_of tests_in fails_at offset_in
 returns c =
     rw (
-      (let x : let a = c.args in leb 4 (left_at a.run.now a.at) ≡ true = le-leb _ _ c.if-left-lt-FORE_LENGTH.false in x),
+      (let x : let a = c.args in leb 4 (left_at a.run.now a.at) ≡ true =
+          le-leb _ _ c.if-left-lt-FORE_LENGTH.false in x),
       (let x : let a = c.args in
           is_allowed a.first (told_kind_at a.run.now a.at) ≡ true = let k = c.is_allowed in
           let e = told k.ensures (c.if-not-is_allowed.false) in
           rw (← c.get-kind.ensures.0) e in x),
       (let x : let a = c.args in
-          record_length (told_kind_at a.run.now a.at) ≡ c.record_length-len.result = let k = c.get-kind in
+          record_length (told_kind_at a.run.now a.at) ≡ c.record_length-len.result =
+          let k = c.get-kind in
           sym (c.record_length-len.ensures ∙ ap record_length k.ensures.0) in x),
       (let x : let a = c.args in
-          leb c.record_length-len.result (told_length_at a.run.now a.at) ≡ true = rw (← c.get-told.ensures.0) (le-leb _ _ c.if-told-len.false) in x),
+          leb c.record_length-len.result (told_length_at a.run.now a.at) ≡ true =
+          rw (← c.get-told.ensures.0) (le-leb _ _ c.if-told-len.false) in x),
       (let x : let a = c.args in
-          leb (told_length_at a.run.now a.at) c.record_length-len.result ≡ true = rw (← c.get-told.ensures.0) (le-leb _ _ c.if-len-told.false) in x),
+          leb (told_length_at a.run.now a.at) c.record_length-len.result ≡ true =
+          rw (← c.get-told.ensures.0) (le-leb _ _ c.if-len-told.false) in x),
       le-leb _ _ c.if-left-len.false,
       ← c.get-kind.ensures.0,
     )

@@ -40,7 +40,8 @@ pub returns-then-s-2 : goal.returns-then-s-2
 unfolding opening_offset tests_in fails_at field_offset widths_of total last_longest last_tick
 returns-then-s-2 c =
     let t = (let x : let t = c.args.s.longest in
-    (leb 1 t ≡ true) × (leb t last_longest ≡ true) = longest_fits c.args.s.longest c.if-s.false in x) in
+    (leb 1 t ≡ true) × (leb t last_longest ≡ true) =
+    longest_fits c.args.s.longest c.if-s.false in x) in
     rw (
       (let x : cell_fits c.args.s.n ≡ true = let k = c.cell_fits in
           told k.ensures (c.if-not-cell_fits.false) in x),
@@ -53,7 +54,8 @@ pub returns-then-clock-gt-LAST_TICK : goal.returns-then-clock-gt-LAST_TICK
 unfolding opening_offset tests_in fails_at field_offset widths_of total last_longest last_tick
 returns-then-clock-gt-LAST_TICK c =
     let t = (let x : let t = c.args.s.longest in
-    (leb 1 t ≡ true) × (leb t last_longest ≡ true) = longest_fits c.args.s.longest c.if-s.false in x) in
+    (leb 1 t ≡ true) × (leb t last_longest ≡ true) =
+    longest_fits c.args.s.longest c.if-s.false in x) in
     rw (
       (let x : cell_fits c.args.s.n ≡ true = let k = c.cell_fits in
           told k.ensures (c.if-not-cell_fits.false) in x),
@@ -67,7 +69,8 @@ pub returns : goal.returns
 unfolding opening_offset tests_in fails_at field_offset widths_of total last_longest last_tick
 returns c =
     let t = (let x : let t = c.args.s.longest in
-    (leb 1 t ≡ true) × (leb t last_longest ≡ true) = longest_fits c.args.s.longest c.if-s.false in x) in
+    (leb 1 t ≡ true) × (leb t last_longest ≡ true) =
+    longest_fits c.args.s.longest c.if-s.false in x) in
     rw (
       (let x : cell_fits c.args.s.n ≡ true = let k = c.cell_fits in
           told k.ensures (c.if-not-cell_fits.false) in x),

@@ -117,7 +117,8 @@ deliver_step-step-requires c =
     (sym c.in-Deliver.ensures) _ c.content_in-content.ensures
 
 pub offset_bounds-pending-who : goal.offset_bounds-pending-who
-offset_bounds-pending-who c = omega (arith, who_few c.loop-r.invariant.4 _ _ _ c.place_in-who.ensures)
+offset_bounds-pending-who c =
+    omega (arith, who_few c.loop-r.invariant.4 _ _ _ c.place_in-who.ensures)
 
 pub bounds-pending-who : goal.bounds-pending-who
 bounds-pending-who c = who_few c.loop-r.invariant.4 _ _ _ c.place_in-who.ensures
@@ -216,11 +217,21 @@ place-placed-requires c =
 
 pub bounds-hosts-k : goal.bounds-hosts-k
 bounds-hosts-k c =
-    omega (arith, c.loop-k-test.true, (left (goal.at.bounds-hosts-k c).Joined-way_of).0.few, few c.loop-r.invariant.4)
+    omega (
+      arith,
+      c.loop-k-test.true,
+      (left (goal.at.bounds-hosts-k c).Joined-way_of).0.few,
+      few c.loop-r.invariant.4,
+    )
 
 pub offset_bounds-hosts-k : goal.offset_bounds-hosts-k
 offset_bounds-hosts-k c =
-    omega (arith, c.loop-k-test.true, (left (goal.at.offset_bounds-hosts-k c).Joined-way_of).0.few, few c.loop-r.invariant.4)
+    omega (
+      arith,
+      c.loop-k-test.true,
+      (left (goal.at.offset_bounds-hosts-k c).Joined-way_of).0.few,
+      few c.loop-r.invariant.4,
+    )
 
 pub moved_by-requires : goal.moved_by-requires
 moved_by-requires c =
@@ -230,11 +241,21 @@ moved_by-requires c =
 
 pub bounds-hosts-k-in-loop-k : goal.bounds-hosts-k-in-loop-k
 bounds-hosts-k-in-loop-k c =
-    omega (arith, c.loop-k-test.true, (left (goal.at.bounds-hosts-k-in-loop-k c).Joined-way_of).0.few, few c.loop-r.invariant.4)
+    omega (
+      arith,
+      c.loop-k-test.true,
+      (left (goal.at.bounds-hosts-k-in-loop-k c).Joined-way_of).0.few,
+      few c.loop-r.invariant.4,
+    )
 
 pub offset_bounds-hosts-k-in-loop-k : goal.offset_bounds-hosts-k-in-loop-k
 offset_bounds-hosts-k-in-loop-k c =
-    omega (arith, c.loop-k-test.true, (left (goal.at.offset_bounds-hosts-k-in-loop-k c).Joined-way_of).0.few, few c.loop-r.invariant.4)
+    omega (
+      arith,
+      c.loop-k-test.true,
+      (left (goal.at.offset_bounds-hosts-k-in-loop-k c).Joined-way_of).0.few,
+      few c.loop-r.invariant.4,
+    )
 
 pub loop-k-preserved : goal.loop-k-preserved
 loop-k-preserved c =
@@ -348,33 +369,47 @@ marks_are c =
 -- ---- what is sent is stored
 
 pub loop-f-init : goal.loop-f-init
-loop-f-init c = (omega arith, none_stored _ _ _ _, marks_are (goal.at.loop-f-init c).Joined-answer-frees)
+loop-f-init c =
+    (omega arith, none_stored _ _ _ _, marks_are (goal.at.loop-f-init c).Joined-answer-frees)
 
 pub offset_bounds-filled-f : goal.offset_bounds-filled-f
-offset_bounds-filled-f c = omega (arith, c.loop-f-test.true, few_filled (goal.at.offset_bounds-filled-f c).After-place-placed)
+offset_bounds-filled-f c =
+    omega (
+      arith,
+      c.loop-f-test.true,
+      few_filled (goal.at.offset_bounds-filled-f c).After-place-placed,
+    )
 
 pub bounds-filled-f : goal.bounds-filled-f
-bounds-filled-f c = omega (arith, c.loop-f-test.true, few_filled (goal.at.bounds-filled-f c).After-place-placed)
+bounds-filled-f c =
+    omega (arith, c.loop-f-test.true, few_filled (goal.at.bounds-filled-f c).After-place-placed)
 
 pub bounds-to-f : goal.bounds-to-f
-bounds-to-f c = omega (arith, c.loop-f-test.true, few_filled (goal.at.bounds-to-f c).After-place-placed)
+bounds-to-f c =
+    omega (arith, c.loop-f-test.true, few_filled (goal.at.bounds-to-f c).After-place-placed)
 
 pub offset_bounds-slots-j : goal.offset_bounds-slots-j
 offset_bounds-slots-j c =
-    omega (arith, within (goal.at.offset_bounds-slots-j c).After-place-placed c.loop-f.f c.loop-f-test.true)
+    omega (
+      arith,
+      within (goal.at.offset_bounds-slots-j c).After-place-placed c.loop-f.f c.loop-f-test.true,
+    )
 
 pub bounds-slots-j : goal.bounds-slots-j
-bounds-slots-j c = within (goal.at.bounds-slots-j c).After-place-placed c.loop-f.f c.loop-f-test.true
+bounds-slots-j c =
+    within (goal.at.bounds-slots-j c).After-place-placed c.loop-f.f c.loop-f-test.true
 
 pub bounds-marks-j : goal.bounds-marks-j
-bounds-marks-j c = within (goal.at.bounds-marks-j c).After-place-placed c.loop-f.f c.loop-f-test.true
+bounds-marks-j c =
+    within (goal.at.bounds-marks-j c).After-place-placed c.loop-f.f c.loop-f-test.true
 
 pub loop-f-preserved : goal.loop-f-preserved
 loop-f-preserved c =
     let l = c.loop-f in (
       omega (arith, c.loop-f-test.true),
       stores_on l.f _ _ _ _ l.slots _ l.invariant.1 c.slot_to.ensures,
-      marks_set _ 1 _ l.invariant.2 (within (goal.at.loop-f-preserved c).After-place-placed l.f c.loop-f-test.true)
+      marks_set _ 1 _ l.invariant.2
+          (within (goal.at.loop-f-preserved c).After-place-placed l.f c.loop-f-test.true)
           (marked_full _ _ c.slot_to.ensures),
     )
 
@@ -478,7 +513,8 @@ loop-r-preserved c =
     ≡ event_of (cell_with s c.loop-r.hosts c.loop-r.slots) e =
     beside _ _ _ _ (hosts_are (goal.at.loop-r-preserved c).Joined-answer-steps)
     (stored_are (goal.at.loop-r-preserved c).Joined-sent
-    ∙ ap (stored_in found.sent placed.count filled to) (slots_are (goal.at.loop-r-preserved c).Joined-answer-frees))
+    ∙ ap (stored_in found.sent placed.count filled to)
+    (slots_are (goal.at.loop-r-preserved c).Joined-answer-frees))
     (event_after v.0 (index_few _ _ c.slot_in-i.ensures) c.loop-r.marks filled to placed
     c.loop-r.invariant.3 (outcome (goal.at.loop-r-preserved c).After-place-placed)) in
     let written =
@@ -490,7 +526,8 @@ loop-r-preserved c =
       refl,
       v.1,
       c.place-placed.ensures.0,
-      marks_still (goal.at.loop-r-preserved c).Joined-sent (marks_are (goal.at.loop-r-preserved c).Joined-answer-frees),
+      marks_still (goal.at.loop-r-preserved c).Joined-sent
+          (marks_are (goal.at.loop-r-preserved c).Joined-answer-frees),
       rw c.walked-w.ensures
           (going_turn g e next c.in-Event.is hosts slots _ _ _ _ _ committed written short
           c.read_at-r.ensures),

@@ -17,7 +17,8 @@ use Rattle.run.proofs.play.Given as goal
 
 abbrev pub invariant-loop-g : goal.invariant-loop-g
 invariant-loop-g l =
-    (l.g ≤ l.s.n) × Span far_tick (clocks_after (cell_with l.s l.hosts l.slots) l.e) l.g l.low l.high
+    (l.g ≤ l.s.n)
+    × Span far_tick (clocks_after (cell_with l.s l.hosts l.slots) l.e) l.g l.low l.high
 
 abbrev pub decreases-loop-g : goal.decreases-loop-g
 decreases-loop-g l = l.watched - l.g

@@ -9,7 +9,8 @@ use Rattle.text.proofs.put_word.Given as goal
 abbrev pub invariant-loop-i : goal.invariant-loop-i
 invariant-loop-i l =
     (l.i ≤ length l.word)
-    × ((length l.out ≡ length l.initial.out) × (sets l.out (l.at + l.i) (drop l.i l.word) ≡ sets l.initial.out l.at l.word))
+    × ((length l.out ≡ length l.initial.out)
+    × (sets l.out (l.at + l.i) (drop l.i l.word) ≡ sets l.initial.out l.at l.word))
 
 abbrev pub decreases-loop-i : goal.decreases-loop-i
 decreases-loop-i l = length l.word - l.i

@@ -6,7 +6,8 @@ use Rattle.wire.specs.Wire.{number_at}
 use Rattle.wire.proofs.get.Given as goal
 
 abbrev pub invariant-loop-i : goal.invariant-loop-i
-invariant-loop-i l = (l.i ≤ l.w) × ((l.v ≡ number_at l.s (l.at + l.i) (l.w - l.i)) × (l.v < 2 ^ (8 * (l.w - l.i))))
+invariant-loop-i l =
+    (l.i ≤ l.w) × ((l.v ≡ number_at l.s (l.at + l.i) (l.w - l.i)) × (l.v < 2 ^ (8 * (l.w - l.i))))
 
 abbrev pub decreases-loop-i : goal.decreases-loop-i
 decreases-loop-i l = l.i

@@ -10,7 +10,8 @@ use Rattle.wire.proofs.put.Given as goal
 abbrev pub invariant-loop-i : goal.invariant-loop-i
 invariant-loop-i l =
     (l.i ≤ l.w)
-    × ((length l.out ≡ length l.initial.out) × (sets l.out (l.at + l.i) (le (l.w - l.i) l.rest) ≡ sets l.initial.out l.at (le l.w l.v)))
+    × ((length l.out ≡ length l.initial.out)
+    × (sets l.out (l.at + l.i) (le (l.w - l.i) l.rest) ≡ sets l.initial.out l.at (le l.w l.v)))
 
 abbrev pub decreases-loop-i : goal.decreases-loop-i
 decreases-loop-i l = l.w - l.i

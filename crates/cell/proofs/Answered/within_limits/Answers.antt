@@ -1,6 +1,6 @@
--- `Answered::within_limits` is `cell_ok`: settings, places, states, clocks and slots, in that order.
--- Settings that fit give `clocks_ok` the n from 1 to 9 that it asks for.
--- what each test that was passed tells
+-- `Answered::within_limits` is `cell_ok`: settings, places, states, clocks and slots, in that
+-- order. Settings that fit give `clocks_ok` the n from 1 to 9 that it asks for. what each test that
+-- was passed tells
 use borrow.Author.Rules.{rules}
 use mathlib.Core.Bool.{true}
 use mathlib.Core.Path.{◌≡◌}
@@ -11,7 +11,8 @@ use Rattle.state.proofs.StateLimits.{settings_in}
 use Rattle.places.specs.Places.{places_ok, states_ok, clocks_ok}
 use Rattle.cell.specs.CellLimits.{cell_ok}
 use Rattle.cell.proofs.Answered.within_limits.Goals as goal
-use Rattle.cell.proofs.Answered.within_limits.Goals.{Else-not-clocks_ok, Else-not-places_ok, Else-not-settings_ok, Else-not-states_ok}
+use Rattle.cell.proofs.Answered.within_limits.Goals.{Else-not-clocks_ok, Else-not-places_ok}
+use Rattle.cell.proofs.Answered.within_limits.Goals.{Else-not-settings_ok, Else-not-states_ok}
 
 settings_fit : (c : Else-not-settings_ok) → settings_ok c.args.self.settings ≡ true
 settings_fit c =

@@ -69,5 +69,6 @@ returns c =
       c.requires,
       ne_eqb _ _ c.if-d-eq0.false,
       le-leb (c.args.self.clock + c.args.d)
-          281474976710656 (omega (arith, c.if-self-d.false, (limits c.before.before.before.before.before).clock)),
+          281474976710656
+          (omega (arith, c.if-self-d.false, (limits c.before.before.before.before.before).clock)),
     )

@@ -16,7 +16,8 @@ enum_known-m c =
 pub on_prepare_request-requires : goal.on_prepare_request-requires
 unfolding numbers_of on_message
 on_prepare_request-requires c =
-    rw c.in-PrepareRequest.is at (small c.args.s c.args.self c.requires.host (numbers_of c.args.m) c.requires.message).host
+    rw c.in-PrepareRequest.is at
+    (small c.args.s c.args.self c.requires.host (numbers_of c.args.m) c.requires.message).host
 
 pub enum_known-m-in-PrepareResponseEmpty-1 : goal.enum_known-m-in-PrepareResponseEmpty-1
 unfolding numbers_of on_message
@@ -26,7 +27,8 @@ enum_known-m-in-PrepareResponseEmpty-1 c =
 pub on_prepare_response-requires : goal.on_prepare_response-requires
 unfolding numbers_of on_message
 on_prepare_response-requires c = (
-  rw c.in-PrepareResponseEmpty.is at (small c.args.s c.args.self c.requires.host (numbers_of c.args.m) c.requires.message).sender,
+  rw c.in-PrepareResponseEmpty.is at
+      (small c.args.s c.args.self c.requires.host (numbers_of c.args.m) c.requires.message).sender,
   c.requires.host,
 )
 
@@ -35,7 +37,8 @@ unfolding numbers_of on_message
 enum_known-m-in-PrepareResponseLease-1 c =
     search rules
 
-pub on_prepare_response-requires-in-PrepareResponseLease : goal.on_prepare_response-requires-in-PrepareResponseLease
+pub on_prepare_response-requires-in-PrepareResponseLease :
+    goal.on_prepare_response-requires-in-PrepareResponseLease
 unfolding numbers_of
 on_prepare_response-requires-in-PrepareResponseLease c = (
   rw c.in-PrepareResponseLease.is at
@@ -51,7 +54,8 @@ enum_known-m-in-ProposeRequest-1 c =
 pub on_propose_request-requires : goal.on_propose_request-requires
 unfolding numbers_of on_message
 on_propose_request-requires c =
-    rw c.in-ProposeRequest.is at (small c.args.s c.args.self c.requires.host (numbers_of c.args.m) c.requires.message).host
+    rw c.in-ProposeRequest.is at
+    (small c.args.s c.args.self c.requires.host (numbers_of c.args.m) c.requires.message).host
 
 pub enum_known-m-in-ProposeResponse-1 : goal.enum_known-m-in-ProposeResponse-1
 unfolding numbers_of on_message
@@ -63,7 +67,9 @@ unfolding numbers_of
 on_propose_response-requires c =
     let a = c.args in
     let h = host_in a.s a.self c.requires.host in (
-      rw c.in-ProposeResponse.is at (small c.args.s c.args.self c.requires.host (numbers_of c.args.m) c.requires.message).sender,
+      rw c.in-ProposeResponse.is at
+          (small c.args.s c.args.self c.requires.host (numbers_of c.args.m)
+          c.requires.message).sender,
       record {
         few = omega (arith, (settings_in a.s h.settings).few);
         number = h.number;

@@ -12,7 +12,8 @@ use Rattle.host.specs.Steps.{host_ok, release_refusal, release_of}
 use Rattle.host.proofs.HostLimits.{host_in}
 use borrow.Author.Rules.{rules}
 use Rattle.host.proofs.Host.release.Goals as goal
-use Rattle.host.proofs.Host.release.Goals.{Else-is_waiting, Else-not-host_ok, Else-not-names_itself, Start}
+use Rattle.host.proofs.Host.release.Goals.{Else-is_waiting, Else-not-host_ok, Else-not-names_itself}
+use Rattle.host.proofs.Host.release.Goals.{Start}
 
 abbrev start : Else-not-host_ok → Start
 start c = c.before.before

@@ -1,6 +1,5 @@
--- `Host::start` is `start_of`: each test that fails refuses in the order of `start_refusal`, and once
--- all are passed the host starts its round.
--- from each test that is passed to the one before it
+-- `Host::start` is `start_of`: each test that fails refuses in the order of `start_refusal`, and
+-- once all are passed the host starts its round. from each test that is passed to the one before it
 use mathlib.Core.Path.{◌≡◌}
 use mathlib.Core.Bool.{true, false}
 use native.Mathlib.Omega.{arith}
@@ -15,7 +14,8 @@ use Rattle.host.specs.Steps.{host_ok, start_of, start_refusal}
 use Rattle.host.proofs.HostLimits.{host_in}
 use borrow.Author.Rules.{rules}
 use Rattle.host.proofs.Host.start.Goals as goal
-use Rattle.host.proofs.Host.start.Goals.{After-is_fresh, Else-duration-eq0, Else-is_waiting, Else-not-duration_ok, Else-not-host_ok, Start}
+use Rattle.host.proofs.Host.start.Goals.{After-is_fresh, Else-duration-eq0, Else-is_waiting}
+use Rattle.host.proofs.Host.start.Goals.{Else-not-duration_ok, Else-not-host_ok, Start}
 
 abbrev start : Else-not-host_ok → Start
 start c = c.before.before
@@ -101,7 +101,12 @@ refused_with-requires-then-duration-eq0 c =
 pub returns-then-duration-eq0 : goal.returns-then-duration-eq0
 unfolding start_of start_refusal first_of
 returns-then-duration-eq0 c =
-    rw (c.refused_with-then-duration-eq0.ensures, within c.before.before.before.before, awake c.before.before, eq-eqb _ _ c.if-duration-eq0.true)
+    rw (
+      c.refused_with-then-duration-eq0.ensures,
+      within c.before.before.before.before,
+      awake c.before.before,
+      eq-eqb _ _ c.if-duration-eq0.true,
+    )
 
 pub duration_ok-requires : goal.duration_ok-requires
 unfolding start_of start_refusal first_of
