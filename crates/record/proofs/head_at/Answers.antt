@@ -15,6 +15,12 @@ use Rattle.record.specs.Record.{is_allowed, record_length, left_at, told_length_
 use Rattle.record.specs.Record.{record_fault, fault_offset, head_of}
 use borrow.Author.Rules.{rules}
 use Rattle.record.proofs.head_at.Goals as goal
+use Rattle.record.proofs.head_at.Goals.{Else-left-len}
+
+-- the told length is not below the kind's
+not-short : (c : Else-left-len) → let a = c.args in
+    leb c.record_length-len.result (told_length_at a.run.now a.at) ≡ true
+not-short c = rw (← c.get-told.ensures.0) (le-leb _ _ c.if-told-len.false)
 
 pub returns-then-run-at : goal.returns-then-run-at
 unfolding head_of record_fault fault_offset first_of all_of tests_in fails_at offset_in
@@ -163,9 +169,7 @@ returns c =
           record_length (told_kind_at a.run.now a.at) ≡ c.record_length-len.result =
           let k = c.get-kind in
           sym (c.record_length-len.ensures ∙ ap record_length k.ensures.0) in x),
-      (let x : let a = c.args in
-          leb c.record_length-len.result (told_length_at a.run.now a.at) ≡ true =
-          rw (← c.get-told.ensures.0) (le-leb _ _ c.if-told-len.false) in x),
+      not-short c,
       (let x : let a = c.args in
           leb (told_length_at a.run.now a.at) c.record_length-len.result ≡ true =
           rw (← c.get-told.ensures.0) (le-leb _ _ c.if-len-told.false) in x),
