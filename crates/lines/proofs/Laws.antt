@@ -2,17 +2,21 @@
 -- Assumes nothing.
 use mathlib.Core.Path.{◌≡◌, refl, sym, ap, ◌∙◌}
 use mathlib.Core.List.{List, [], ◌∷◌, ◌++◌, append_assoc}
-use Prim.Native.Nat.{ℕ, suc, ◌+◌, ◌-◌, ◌^◌, ◌≤◌, ◌<◌}
+use Prim.Native.Nat.{ℕ, zero, suc, ◌+◌, ◌-◌, ◌^◌, ◌≤◌, ◌<◌}
 use native.Mathlib.Omega.{arith}
 use native.Mathlib.Nat.{lt_of_lt_of_le}
 use native.Mathlib.Numerals.{add-one}
 use lib.Dec.{lit≤}
+use borrow.Author.Tests.{lt-ltb}
 use lib.ListN.{length, length-append, get_or}
 use Rattle.text.specs.Text.{decimal}
-use Rattle.text.proofs.Laws.{decimal_most}
+use Rattle.text.proofs.Laws.{decimal_one, decimal_most}
+use Rattle.rules.specs.declared.Holder.{Holder}
+use Rattle.rules.specs.declared.Named.{Named}
 use Rattle.host.specs.declared.Host.{Host}
 use Rattle.places.specs.Places.{blank_host}
 use Rattle.lines.specs.Lines.{Line, last_of, name_text, names_from, names_text, line_text, text_of}
+use Rattle.lines.specs.Parts.{digit_of, name_byte, bytes_text}
 
 -- ---- how long numbers are
 
@@ -59,3 +63,39 @@ text_then [] ms = refl
 text_then (l ∷ ls) ms =
     ap (λ (bytes : List ℕ). line_text l ++ bytes) (text_then ls ms)
     ∙ sym (append_assoc (line_text l) (text_of ls) (text_of ms))
+
+-- ---- names as bytes that are lent
+
+-- whom host i names, and whom those after it name
+pub bytes_step : (names : List ℕ) (n i : ℕ) → i < n
+    → bytes_text names (n - i) i
+    ≡ (32 ∷ get_or names i 0 ∷ []) ++ bytes_text names (n - (i + 1)) (i + 1)
+unfolding bytes_text
+bytes_step names n i h =
+    let e : n - i ≡ suc (n - (i + 1)) = omega arith in
+    rw (e, add-one i)
+
+pub bytes_end : (names : List ℕ) (n i : ℕ) → n ≤ i → bytes_text names (n - i) i ≡ []
+unfolding bytes_text
+bytes_end names n i h =
+    let e : n - i ≡ 0 = omega arith in
+    rw e
+
+-- the number of a host below 10 is its digit
+pub name_text_lem : (m : Named) → ((k : Holder) → m ≡ Named.One k → k.owner < 10)
+    → name_text m ≡ name_byte m ∷ []
+unfolding name_text digit_of
+name_text_lem Named.Nobody b = refl
+name_text_lem (Named.One k) b = rw (lt-ltb k.owner 10 (b k refl)) (decimal_one k.owner (b k refl))
+
+pub names_text_lem : (names : List ℕ) (hosts : List Host) (k i : ℕ)
+    → ((h : ℕ) → i ≤ h → h < i + k
+    → name_text (get_or hosts h blank_host).state.named ≡ get_or names h 0 ∷ [])
+    → bytes_text names k i ≡ names_text (names_from hosts k i)
+unfolding bytes_text names_text names_from
+names_text_lem names hosts zero i f = refl
+names_text_lem names hosts (suc k) i f =
+    rw (
+      f i (omega arith) (omega arith),
+      names_text_lem names hosts k (suc i) (λ h a b. f h (omega (arith, a)) (omega (arith, b))),
+    )

@@ -1,2 +1,3 @@
--- The lines of a listing, and their text.
+-- The lines of a listing, and their text; Parts, names as bytes that are lent, needs no belief.
 pub mod Lines
+pub mod Parts

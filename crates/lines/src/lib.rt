@@ -1,13 +1,16 @@
-// The lines of a listing, written into lent bytes at an offset. Each function gives the offset past
-// what it wrote.
+// The lines of a listing, written into lent bytes at an offset, and whom hosts name, as bytes of a
+// line. Each function that writes gives the offset past what it wrote.
 #![tactic(auto)]
 
-ghost use Rattle.std.specs.Prelude.{◌∷◌, ◌+◌, ◌≤◌, ◌<◌, length};
+ghost use Rattle.std.specs.Prelude.{◌≡◌, [], ◌∷◌, ◌+◌, ◌*◌, ◌≤◌, ◌<◌, length};
 ghost use Rattle.text.specs.Parts.{Put};
+ghost use Rattle.places.specs.Parts.{Mirrors};
 ghost use Rattle.lines.specs.Lines.{settings, stop, counts};
 ghost use Rattle.lines.specs.Lines.{last_of, name_text, event_head, line_text};
+ghost use Rattle.lines.specs.Parts.{digit_of, name_byte, name_of, bytes_text};
 
 use host::Host;
+use places::PLACES;
 use rules::Named;
 use state::Settings;
 
@@ -86,6 +89,67 @@ pub fn put_name_of(out: &mut [u8], at: usize, host: Host) -> usize
     let state = host.state;
     let named = state.named;
     put_name(out, at, named)
+}
+
+// The digit of a number below 10, as every host's is; of any other a dash.
+fn digit_of(number: u8) -> u8
+    ensures { result ≡ digit_of number }
+{
+    if number < 10 {
+        return b'0' + number;
+    }
+    b'-'
+}
+
+// Whom a host names, as a line shows it: the holder's number, or `-`.
+pub fn name_of(h: Host) -> u8
+    ensures { result ≡ name_byte h.state.named }
+{
+    let state = h.state;
+    let named = state.named;
+    match named {
+        Named::Nobody => b'-',
+        Named::One(k) => digit_of(k.owner),
+    }
+}
+
+// Whom the hosts name, as bytes that can be lent.
+pub fn names_of(hosts: [Host; 9]) -> [u8; 9]
+    requires { length hosts ≡ 9 }
+    ensures { Mirrors name_of hosts result }
+{
+    let mut names: [u8; 9] = [0; 9];
+    let mut i: usize = 0;
+    while i < PLACES {
+        names[i] = name_of(hosts[i]);
+        i += 1;
+    }
+    names
+}
+
+// A space and a name.
+fn put_name_byte(out: &mut [u8], at: usize, name: u8) -> usize
+    requires { at + 2 ≤ length out.old }
+    ensures { Put out.old at (32 ∷ name ∷ []) result out.new }
+{
+    let a = text::put_byte(out, at, b' ');
+    text::put_byte(out, a, name)
+}
+
+// Whom the n hosts name, each after a space.
+pub fn put_names(out: &mut [u8], at: usize, names: &[u8; 9], n: u8) -> usize
+    requires { ((n ≤ 9) × (length names.now ≡ 9)) × (at + 2 * n ≤ length out.old) }
+    ensures { Put out.old at (bytes_text names.now n 0) result
+        out.new × (result ≤ at + 2 * n) }
+{
+    let last = n as usize;
+    let mut end = at;
+    let mut q: usize = 0;
+    while q < last {
+        end = put_name_byte(out, end, names[q]);
+        q += 1;
+    }
+    end
 }
 
 // An event's place from 1, its kind and its answer, with which its line begins.
