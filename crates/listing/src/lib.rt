@@ -1,5 +1,5 @@
 // What the listing of a run file is, and the parts of it that need no cell: the room for it, how
-// far the walk has come, how a line begins and how a listing ends, and that of a file that is too
+// far the walk has come, the line of an event, how a listing ends, and that of a file that is too
 // long. The crates `run` and `player` write the rest.
 #![tactic(auto)]
 
@@ -9,7 +9,8 @@ ghost use Rattle.base.specs.Refusals.{refused_long};
 ghost use Rattle.record.specs.Record.{kind_of};
 ghost use Rattle.lines.specs.Lines.{stop, event_head, line_text, text_of};
 ghost use Rattle.listing.specs.Listing.{longest_run, long_room, room_for};
-ghost use Rattle.listing.specs.Parts.{done_of, last_lines, walk_from, walked_to};
+ghost use Rattle.listing.specs.Parts.{done_of, last_lines, walk_from, walked_to, LineFits};
+ghost use Rattle.listing.specs.Parts.{LinePut};
 
 use base::DONE;
 use cell::Event;
@@ -114,6 +115,27 @@ pub fn put_head(out: &mut [u8], w: Walk, e: Event, answer: u8) -> usize
 {
     let place = w.applied + w.refused + 1;
     lines::put_event_head(out, w.pos, place, record::kind_of(e), answer)
+}
+
+// The line of an event, with these names, and the walk past it.
+pub fn put_line(
+    out: &mut [u8],
+    w: Walk,
+    e: Event,
+    answer: u8,
+    looked: usize,
+    next: usize,
+    names: &[u8; 9],
+    n: u8,
+) -> Walk
+    requires { LineFits w out.old names.now n }
+    ensures { LinePut w out.old e answer looked next names.now n result
+        out.new }
+{
+    let head = put_head(out, w, e, answer);
+    let named = lines::put_names(out, head, names, n);
+    let end = text::put_byte(out, named, b'\n');
+    walked(w, answer, looked, next, end)
 }
 
 // The fault's line, if there is one, and the counts.
