@@ -20,7 +20,8 @@ use Rattle.message.specs.declared.Sizes.{Sizes}
 use Rattle.message.specs.declared.Numbers.{Numbers}
 use Rattle.message.specs.declared.Message.{Message}
 use Rattle.message.specs.Message.{known_kind, numbers_of, message_of, with_target}
-use Rattle.message.specs.Faults.{sizes_fit, host_tests, tick_tests, party_fits, refusals_of, fault_of}
+use Rattle.message.specs.Faults.{sizes_fit, host_tests, tick_tests, party_fits, refusals_of}
+use Rattle.message.specs.Faults.{fault_of}
 use Rattle.message.specs.Faults.{fault_to}
 use Rattle.message.proofs.Laws.{passed_to}
 use Rattle.layout.specs.Layout.{kind_length, offset_of, fore_length, bytes_of, numbers_in}
@@ -100,7 +101,8 @@ found_read z s = go (eqb (read_answer z s) 0)
         let l = kind_length (told_kind s) in
         let a = read_answer z s in
         let at = read_offset z s in
-        cond b (Whole (message_of f) l) (Refused a at) ≡ reading_of (cond b (Frame f l) (Fault a at))
+        cond b (Whole (message_of f) l) (Refused a at)
+        ≡ reading_of (cond b (Frame f l) (Fault a at))
     go true = refl
     go false = refl
 
@@ -138,7 +140,8 @@ answer_found : (z : Sizes) (ks bytes : List ℕ) (total room : ℕ)
     → (first_of ks ≡ 0 → length bytes ≡ total)
     → answer_of z (first_of ks) total room
     ≡ first_of
-    (unless (sizes_fit z) refused_cell ∷ (ks ++ (unless (leb (length bytes) room) refused_room ∷ [])))
+    (unless (sizes_fit z) refused_cell
+    ∷ (ks ++ (unless (leb (length bytes) room) refused_room ∷ [])))
 unfolding answer_of
 answer_found z ks bytes total room h =
     first_same _ _ _

@@ -8,7 +8,8 @@ use native.Mathlib.Omega.{arith}
 use lib.ListN.{length}
 use borrow.Author.Tests.{le-leb, lt-leb}
 use Rattle.base.specs.Refusals.{first_of, tests_in, fails_at, place_by}
-use Rattle.base.specs.Refusals.{refused_cell, refused_cut, refused_kind, refused_length, refused_short}
+use Rattle.base.specs.Refusals.{refused_cell, refused_cut, refused_kind, refused_length}
+use Rattle.base.specs.Refusals.{refused_short}
 use Rattle.base.specs.Lists.{all_of}
 use Rattle.message.specs.declared.Sizes.{Sizes}
 use Rattle.message.specs.Message.{known_kind}

@@ -31,7 +31,8 @@ use Rattle.message.specs.Faults.{Field, settings, lent_bytes, frame_length, kind
 use Rattle.message.specs.Faults.{target, sizes_fit, host_tests, tick_tests, party_field, party_fits}
 use Rattle.message.specs.Faults.{refusals_of}
 use Rattle.message.proofs.Laws.{by_kind}
-use Rattle.layout.specs.Layout.{more_of, kind_length, offset_in, place_in, length_refusals, value_in}
+use Rattle.layout.specs.Layout.{more_of, kind_length, offset_in, place_in, length_refusals}
+use Rattle.layout.specs.Layout.{value_in}
 use Rattle.layout.specs.Layout.{numbers_in}
 use Rattle.layout.proofs.Laws.{length_least}
 use Rattle.frame.specs.declared.Reading.TheVariants.{Whole, Refused}
@@ -154,7 +155,8 @@ module _ (z : Sizes) (s : List ℕ) where
       lowest_first at 0 (length s + 1) _ (drop 2 rs) refl
       (lone at (test lent_bytes (leb 4 (length s)))) (cut_again z s)
       (λ _.
-      lowest_lone at refused_kind (test kind_number (known_kind (told_kind s))) (drop 3 rs) refl refl
+      lowest_lone at refused_kind (test kind_number (known_kind (told_kind s))) (drop 3 rs) refl
+      refl
       (λ k.
       lowest_lone at refused_short (test frame_length (leb len told)) (drop 4 rs) refl refl
       (λ _.
@@ -349,7 +351,8 @@ former_number_lem z s =
     former_append (drop 5 rs) [] [] (refl, (refl, (refl, (refl, tt))))
     (refl, (refl, (refl, (refl, tt)))) refl in
     former_append (take 3 rs) (drop 3 rs) (drop 3 (former_refusals z s)) (refl, (refl, (refl, tt)))
-    (refl, (refl, (refl, tt))) (lengths (told_length s) (kind_length (told_kind s)) (drop 5 rs) rest)
+    (refl, (refl, (refl, tt)))
+    (lengths (told_length s) (kind_length (told_kind s)) (drop 5 rs) rest)
 
 -- a refusal stays one
 former_refused : (a : ℕ) → eqb a done ≡ false → eqb (former_number a) done ≡ false

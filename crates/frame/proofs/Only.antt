@@ -8,7 +8,8 @@ use native.Mathlib.Omega.{arith}
 use lib.ListN.{length, get_or, take}
 use lib.Dec.{leb, eqb}
 use borrow.Author.Tests.{leb-true, eqb-true}
-use Rattle.base.specs.Refusals.{refused_cell, refused_cut, refused_kind, refused_length, refused_short}
+use Rattle.base.specs.Refusals.{refused_cell, refused_cut, refused_kind, refused_length}
+use Rattle.base.specs.Refusals.{refused_short}
 use Rattle.base.specs.Lists.{all_of}
 use Rattle.base.proofs.Tests.{unless_passed}
 use Rattle.message.specs.declared.Sizes.{Sizes}
@@ -116,7 +117,8 @@ pub frames_apart : (m m' : Message) → Fit (numbers_of m) → Fit (numbers_of m
 frames_apart m m' h h' e =
     let s = frame_of m ++ [] in
     let same : frame_of m' ++ [] ≡ s = ap (λ (l : List ℕ). l ++ []) (sym e) in
-    let k : (numbers_of m).kind ≡ (numbers_of m').kind = sym (kind_back m []) ∙ sym (ap told_kind same)
+    let k : (numbers_of m).kind ≡ (numbers_of m').kind =
+    sym (kind_back m []) ∙ sym (ap told_kind same)
     ∙ kind_back m' [] in
     let f : numbers_of m ≡ numbers_of m' = sym (frame_back m [] h) ∙ ap (numbers_in s) k
     ∙ sym (ap (λ (l : List ℕ). numbers_in l (numbers_of m').kind) same) ∙ frame_back m' [] h' in

@@ -217,7 +217,8 @@ module _ (z : Sizes) (s t : List ℕ) where
   unfolding read_of read_answer read_offset first_of all_of tests_in fails_at offset_in
   rest_unread h = cells (sizes_fit z) refl
     where
-      fours : sizes_fit z ≡ true → (l : Bool) → leb 4 (length s) ≡ l → read_of z (s ++ t) ≡ read_of z s
+      fours : sizes_fit z ≡ true → (l : Bool) → leb 4 (length s) ≡ l
+          → read_of z (s ++ t) ≡ read_of z s
       fours c true l = whole_rest l c h
       fours c false l = absurd (h (rw (c, l)))
 

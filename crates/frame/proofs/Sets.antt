@@ -40,14 +40,17 @@ unfolding frames_in
 frames_same f h [] = refl
 frames_same f h (x ∷ hs) = rw (frames_same f h hs)
 
-frame_to : (m : Message) (h : ℕ) → frame_of (addressed_to m h) ≡ bytes_of (with_target (numbers_of m) h)
+frame_to : (m : Message) (h : ℕ)
+    → frame_of (addressed_to m h) ≡ bytes_of (with_target (numbers_of m) h)
 unfolding frame_of
 frame_to m h = ap bytes_of (numbers_to m h)
 
-in-turn : (z : Sizes) (m : Message) (set : ℕ) → sizes_fit z ≡ true → fault_to z (numbers_of m) set ≡ 0
+in-turn : (z : Sizes) (m : Message) (set : ℕ) → sizes_fit z ≡ true
+    → fault_to z (numbers_of m) set ≡ 0
     → (hs : List ℕ) → All (Member z.n set) hs → (out : List ℕ)
     → length (frames_in (numbers_of m) hs) ≤ length out
-    → in_turn z m hs out ≡ frames_in (numbers_of m) hs ++ drop (length (frames_in (numbers_of m) hs)) out
+    → in_turn z m hs out
+    ≡ frames_in (numbers_of m) hs ++ drop (length (frames_in (numbers_of m) hs)) out
 unfolding in_turn frames_in after_write All
 in-turn z m set c e [] ms out k = refl
 in-turn z m set c e (h ∷ hs) ms out k =

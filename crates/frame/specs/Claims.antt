@@ -1,6 +1,7 @@
 -- What is claimed of reading and writing together, in one place; proofs/Claims.antt proves it.
 -- Assumes nothing.
-use Rattle.std.specs.Prelude.{◌≡◌, true, cond, List, [], ◌∷◌, ◌++◌, ℕ, ◌≤◌, ◌<◌, length, get_or, take, drop, eqb}
+use Rattle.std.specs.Prelude.{◌≡◌, true, cond, List, [], ◌∷◌, ◌++◌, ℕ, ◌≤◌, ◌<◌, length, get_or}
+use Rattle.std.specs.Prelude.{take, drop, eqb}
 use Rattle.base.specs.Refusals.{done, refused_cell, refused_cut, refused_length, refused_party}
 use Rattle.base.specs.Refusals.{refused_short, test, Refusal, refusal, answer_by}
 use Rattle.base.specs.Claims.{GivenAt, Lowest}
@@ -96,7 +97,8 @@ pub record Claims : Type 0 where
   pub read_only : (s : List ℕ) → ((i : ℕ) → get_or s i 0 < 256) → (z : Sizes) (m : Message) (l : ℕ)
       → read_of z s ≡ Whole m l → take l s ≡ frame_of m
   -- two cells that both read some bytes read the same message from them
-  pub cells_alike : (z z' : Sizes) (s : List ℕ) (m m' : Message) (l l' : ℕ) → read_of z s ≡ Whole m l
+  pub cells_alike : (z z' : Sizes) (s : List ℕ) (m m' : Message) (l l' : ℕ)
+      → read_of z s ≡ Whole m l
       → read_of z' s ≡ Whole m' l' → (m ≡ m') × (l ≡ l')
   -- two messages whose numbers fit their fields never share a frame
   pub frames_apart : (m m' : Message) → Fit (numbers_of m) → Fit (numbers_of m')

@@ -32,7 +32,8 @@ frame_of m = bytes_of (numbers_of m)
 
 -- the answer, into `room` bytes
 unfoldable pub write_answer : Sizes → Message → ℕ → ℕ
-write_answer z m room = answer_by (write_refusals z (refusals_of z (numbers_of m)) (frame_of m) room)
+write_answer z m room =
+    answer_by (write_refusals z (refusals_of z (numbers_of m)) (frame_of m) room)
 
 unfoldable pub written_of : Sizes → Message → ℕ → Written
 written_of z m room = written_with (write_answer z m room) (frame_of m)

@@ -24,6 +24,7 @@ first_two false b ks = refl
 
 pub kind_found : (z : Sizes) (k : ℕ) (message : List (Refusal Field)) (bytes : List ℕ) (room : ℕ)
     → answer_by (write_refusals z (kind_refusal k ∷ message) bytes room)
-    ≡ cond (eqb (kind_answer z k) 0) (answer_by (write_refusals z message bytes room)) (kind_answer z k)
+    ≡ cond (eqb (kind_answer z k) 0) (answer_by (write_refusals z message bytes room))
+    (kind_answer z k)
 unfolding all_of kind_answer
 kind_found z k message bytes room = first_two (sizes_fit z) (known_kind k) _

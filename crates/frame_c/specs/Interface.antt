@@ -58,7 +58,8 @@ pub record Wrote (w : Written) (left : List ℕ) (r len : ℕ) (after : List ℕ
 unfoldable pub handed_answer : Sizes → Numbers → ℕ → ℕ
 handed_answer z f room =
     let m = message_of f in
-    answer_by (write_refusals z (kind_refusal f.kind ∷ refusals_of z (numbers_of m)) (frame_of m) room)
+    answer_by (write_refusals z (kind_refusal f.kind ∷ refusals_of z (numbers_of m)) (frame_of m)
+    room)
 
 unfoldable pub handed_written : Sizes → Numbers → ℕ → Written
 handed_written z f room = written_with (handed_answer z f room) (frame_of (message_of f))

@@ -1,5 +1,5 @@
--- `write` gives `written_of` and leaves `after_write`: each refusal in writing's order, and where it
--- meets none the frame's bytes are put at the front.
+-- `write` gives `written_of` and leaves `after_write`: each refusal in writing's order, and where
+-- it meets none the frame's bytes are put at the front.
 use mathlib.Core.Path.{◌≡◌, sym, ◌∙◌}
 use mathlib.Core.Bool.{true, false}
 use Prim.Native.Nat.{◌≤◌}
@@ -34,7 +34,8 @@ pub returns-then-not-sizes_fit : goal.returns-then-not-sizes_fit
 unfolding written_of after_write frame_of
 returns-then-not-sizes_fit c =
     let unfit : sizes_fit c.args.z ≡ false = told c.sizes_fit.ensures c.if-not-sizes_fit.true in
-    let d = sym (write_found c.args.z c.args.m _) ∙ answer_cell _ _ _ (length c.args.out.now) unfit in
+    let d = sym (write_found c.args.z c.args.m _)
+    ∙ answer_cell _ _ _ (length c.args.out.now) unfit in
     (rw (c.refused.ensures, d), rw d)
 
 pub returns-then-bad-ne-DONE : goal.returns-then-bad-ne-DONE

@@ -1,5 +1,5 @@
--- `write_to` gives `written_to` and leaves `after_write_to`: each refusal in its order, and where it
--- meets none the frames to the set's hosts are put at the front.
+-- `write_to` gives `written_to` and leaves `after_write_to`: each refusal in its order, and where
+-- it meets none the frames to the set's hosts are put at the front.
 use Prim.Native.Nat.{ℕ, ◌*◌, ◌≤◌, ◌^◌}
 use mathlib.Core.Path.{◌≡◌, sym, ◌∙◌}
 use mathlib.Core.Bool.{true, false}
