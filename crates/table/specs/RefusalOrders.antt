@@ -144,7 +144,8 @@ pub record RefusalOrders : Type 0 where
       ∷ handed_answer_to (sizes 3) (handed_numbers 1 0 0 105 1 0 0 0 0) 4 0
       ∷ handed_answer_to (sizes 3) (handed_numbers 1 0 0 105 0 0 0 0 0) 4 0
       ∷ [] ≡ 1 ∷ 3 ∷ 5 ∷ 6 ∷ 7 ∷ 8 ∷ []
-  pub opening : (opening_of wide_settings past_tick).answer ∷ (opening_of settings past_tick).answer ∷ []
+  pub opening : (opening_of wide_settings past_tick).answer
+      ∷ (opening_of settings past_tick).answer ∷ []
       ≡ 1 ∷ 6 ∷ []
   pub advance_all : answer_of broken (AdvanceAll 0) ∷ answer_of example (AdvanceAll 0) ∷ []
       ≡ 1 ∷ 15 ∷ []
