@@ -41,7 +41,8 @@ done_after : (c : Cell) (e : Event) → (event_of c e).answer ≡ done
     → cell_of (event_of c e) ≡ after_of c e
 unfolding event_of
 done_after c e a =
-    ap (λ (x : ℕ). cell_of (answer_with x (looked_of c e) c (after_of c e))) (sym (answer_is c e) ∙ a)
+    ap (λ (x : ℕ). cell_of (answer_with x (looked_of c e) c (after_of c e)))
+    (sym (answer_is c e) ∙ a)
 
 -- a delivery leaves its target's step
 at_target : (c : Cell) (i : ℕ) (m : Message) → Sound c → content_at c i ≡ Content.One m

@@ -17,7 +17,8 @@ use Rattle.state.specs.declared.Settings.{Settings}
 use Rattle.state.specs.StateLimits.{duration_ok}
 use Rattle.host.specs.declared.Host.{Host}
 use Rattle.host.specs.declared.Stepped.{Stepped}
-use Rattle.host.specs.Steps.{host_ok, advance_refusal, restart_refusal, start_refusal, release_refusal}
+use Rattle.host.specs.Steps.{host_ok, advance_refusal, restart_refusal, start_refusal}
+use Rattle.host.specs.Steps.{release_refusal}
 use Rattle.slots.specs.declared.Slot.{Slot}
 use Rattle.slots.specs.declared.Content.{Content}
 use Rattle.slots.specs.Slots.{slot_count, is_empty, slot_refusal, empties, freed}
@@ -28,8 +29,10 @@ use Rattle.cell.specs.declared.Event.TheVariants.{Repeat, Restart, Release}
 use Rattle.cell.specs.CellLimits.{host_at, content_at, clocks_near, cell_ok}
 use Rattle.cell.specs.Events.{messages_in, step_full, advance_all_refusal, advanced_one}
 use Rattle.cell.specs.Events.{advance_one_refusal, step_at_refusal, start_step, start_at_refusal}
-use Rattle.cell.specs.Events.{deliver_step, deliver_full, deliver_refusal, lose_refusal, repeat_refusal}
-use Rattle.cell.specs.Events.{restart_at_refusal, release_step, release_at_refusal, refusal_of, event_of}
+use Rattle.cell.specs.Events.{deliver_step, deliver_full, deliver_refusal, lose_refusal}
+use Rattle.cell.specs.Events.{repeat_refusal}
+use Rattle.cell.specs.Events.{restart_at_refusal, release_step, release_at_refusal, refusal_of}
+use Rattle.cell.specs.Events.{event_of}
 use Rattle.cell.specs.Claims.{Sized}
 use Rattle.cell.proofs.Hosts.{by_advances}
 use Rattle.cell.proofs.CellLimits.{cell_in}
@@ -84,7 +87,8 @@ deliver_full_lem : (P : ℕ → Type 0) (c : Cell) (i : ℕ) (t : Content) → P
     → P (deliver_full c i t)
 unfolding deliver_full
 deliver_full_lem P c i Content.Empty z p = z
-deliver_full_lem P c i (Content.One m) z p = step_full_lem P (freed c.slots i) (deliver_step c m) z p
+deliver_full_lem P c i (Content.One m) z p =
+    step_full_lem P (freed c.slots i) (deliver_step c m) z p
 
 -- 5, and then what is told of a host of the cell
 at_host : (P : ℕ → Type 0) (c : Cell) (h : ℕ) (ks : List ℕ) → Sized c → cell_ok c ≡ true
@@ -113,8 +117,8 @@ step_number P c h k step z o d p l f =
 
 refusal_number : (P : ℕ → Type 0) (c : Cell) (e : Event) → Sized c → cell_ok c ≡ true
     → All P (done ∷ order_of e) → P (refusal_of c e)
-unfolding All order_of refusal_of advance_all_refusal advance_one_refusal start_at_refusal deliver_refusal
-    lose_refusal repeat_refusal restart_at_refusal release_at_refusal
+unfolding All order_of refusal_of advance_all_refusal advance_one_refusal start_at_refusal
+    deliver_refusal lose_refusal repeat_refusal restart_at_refusal release_at_refusal
 refusal_number P c (AdvanceAll d) z o p =
     held P (cell_ok c) refused_cell _ o
     (last_of P _
