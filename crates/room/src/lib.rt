@@ -1,8 +1,9 @@
-// The bytes that the programs lend, and reading into them. The contracts give only their lengths,
-// so that no proof above computes them.
+// The bytes that the programs lend, and reading into them. The contracts of what is lent give only
+// lengths, so that no proof above computes them.
 #![tactic(auto)]
 
-ghost use Rattle.std.specs.Prelude.{◌≡◌, ◌≤◌, length, IfOk};
+ghost use Rattle.std.specs.Prelude.{◌≡◌, ◌≤◌, ◌<◌, length, take, IfOk};
+ghost use Rattle.std.specs.Io.KnownBytes.{Consumes, IsAtEnd};
 
 use std::io;
 use std::io::Read;
@@ -22,14 +23,17 @@ pub fn listing_bytes() -> [u8; 655488]
 }
 
 // Reads until the bytes are full or the input ends, and answers how many it read, to their start.
-pub fn fill(input: &mut impl Read, bytes: &mut [u8]) -> io::Result<usize>
-    ensures { IfOk result (λ n. n ≤ length bytes.new) }
+pub fn fill<R: Read>(input: &mut R, bytes: &mut [u8]) -> io::Result<usize>
+    ensures count { IfOk result (λ n. n ≤ length bytes.new) }
+    ensures read { IfOk result
+        (λ n. Consumes (R.remaining input.old) (R.remaining input.new) (take n bytes.new)) }
+    ensures end { IfOk result (λ n. n < length bytes.new → IsAtEnd (R.remaining input.new)) }
 {
     let mut done: usize = 0;
     while done < bytes.len() {
         let n = input.read(&mut bytes[done..])?;
         if n == 0 {
-            break;
+            return Ok(done);
         }
         done += n;
     }

@@ -1,9 +1,13 @@
--- `fill` ends, since each turn leaves less to fill.
-use Rattle.std.proofs.Common.{length, ◌-◌, ◌≤◌}
+-- `fill` reads on behind what it has: what was read so far is the front of the bytes.
+use Rattle.std.proofs.Common.{length, take, ◌-◌, ◌≤◌}
+use Rattle.std.specs.Io.KnownBytes.{Consumes}
 use Rattle.room.proofs.fill.Given as goal
 
 abbrev pub invariant-loop-done : goal.invariant-loop-done
-invariant-loop-done g l = l.done ≤ length l.bytes
+invariant-loop-done g l =
+    (l.done ≤ length l.bytes)
+    × Consumes (g.R.Read.remaining l.initial.input) (g.R.Read.remaining l.input)
+    (take l.done l.bytes)
 
 abbrev pub decreases-loop-done : goal.decreases-loop-done
 decreases-loop-done g l = length l.bytes - l.done
