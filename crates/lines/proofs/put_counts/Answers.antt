@@ -18,18 +18,15 @@ long c = (most_64 _ c.ranges.applied.fits, last_64 _ c.ranges.refused.fits)
 -- what was put before each call
 pub put_spaced-b-requires : goal.put_spaced-b-requires
 put_spaced-b-requires c =
-    let l = long (goal.at.put_spaced-b-requires c).After-put_word-a in
-    omega arith
+    omega (arith, long (goal.at.put_spaced-b-requires c).After-put_word-a)
 
 pub put_word-c-requires : goal.put_word-c-requires
 put_word-c-requires c =
-    let l = long (goal.at.put_word-c-requires c).After-put_word-a in
-    omega arith
+    omega (arith, long (goal.at.put_word-c-requires c).After-put_word-a)
 
 pub put_last-requires : goal.put_last-requires
 put_last-requires c =
-    let l = long (goal.at.put_last-requires c).After-put_word-a in
-    omega arith
+    omega (arith, long (goal.at.put_last-requires c).After-put_word-a)
 
 pub returns : goal.returns
 unfolding line_text

@@ -21,18 +21,15 @@ long c =
 -- what was put before each call
 pub put_decimal-a-requires : goal.put_decimal-a-requires
 put_decimal-a-requires c =
-    let l = long (goal.at.put_decimal-a-requires c).Start in
-    omega arith
+    omega (arith, long (goal.at.put_decimal-a-requires c).Start)
 
 pub put_spaced-b-requires : goal.put_spaced-b-requires
 put_spaced-b-requires c =
-    let l = long (goal.at.put_spaced-b-requires c).Start in
-    omega arith
+    omega (arith, long (goal.at.put_spaced-b-requires c).Start)
 
 pub put_spaced-requires : goal.put_spaced-requires
 put_spaced-requires c =
-    let l = long (goal.at.put_spaced-requires c).Start in
-    omega arith
+    omega (arith, long (goal.at.put_spaced-requires c).Start)
 
 pub returns : goal.returns
 unfolding event_head

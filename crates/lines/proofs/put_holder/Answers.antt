@@ -18,8 +18,7 @@ long c = most_8 _ (search rules)
 -- what each arm puts
 pub put_decimal-requires : goal.put_decimal-requires
 put_decimal-requires c =
-    let l = long (goal.at.put_decimal-requires c).In-One in
-    omega arith
+    omega (arith, long (goal.at.put_decimal-requires c).In-One)
 
 pub returns-in-Nobody : goal.returns-in-Nobody
 unfolding name_text

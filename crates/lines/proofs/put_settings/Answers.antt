@@ -24,23 +24,19 @@ long c = (
 -- what was put before each call
 pub put_decimal-a-requires : goal.put_decimal-a-requires
 put_decimal-a-requires c =
-    let l = long (goal.at.put_decimal-a-requires c).Start in
-    omega arith
+    omega (arith, long (goal.at.put_decimal-a-requires c).Start)
 
 pub put_spaced-b-requires : goal.put_spaced-b-requires
 put_spaced-b-requires c =
-    let l = long (goal.at.put_spaced-b-requires c).Start in
-    omega arith
+    omega (arith, long (goal.at.put_spaced-b-requires c).Start)
 
 pub put_spaced-c-requires : goal.put_spaced-c-requires
 put_spaced-c-requires c =
-    let l = long (goal.at.put_spaced-c-requires c).Start in
-    omega arith
+    omega (arith, long (goal.at.put_spaced-c-requires c).Start)
 
 pub put_last-requires : goal.put_last-requires
 put_last-requires c =
-    let l = long (goal.at.put_last-requires c).Start in
-    omega arith
+    omega (arith, long (goal.at.put_last-requires c).Start)
 
 pub returns : goal.returns
 unfolding line_text

@@ -21,18 +21,15 @@ long c =
 -- what was put before each call
 pub put_spaced-b-requires : goal.put_spaced-b-requires
 put_spaced-b-requires c =
-    let l = long (goal.at.put_spaced-b-requires c).After-put_word-a in
-    omega arith
+    omega (arith, long (goal.at.put_spaced-b-requires c).After-put_word-a)
 
 pub put_spaced-c-requires : goal.put_spaced-c-requires
 put_spaced-c-requires c =
-    let l = long (goal.at.put_spaced-c-requires c).After-put_word-a in
-    omega arith
+    omega (arith, long (goal.at.put_spaced-c-requires c).After-put_word-a)
 
 pub put_last-requires : goal.put_last-requires
 put_last-requires c =
-    let l = long (goal.at.put_last-requires c).After-put_word-a in
-    omega arith
+    omega (arith, long (goal.at.put_last-requires c).After-put_word-a)
 
 pub returns : goal.returns
 unfolding line_text
