@@ -10,12 +10,12 @@ use Rattle.lines.proofs.Laws.{most_64, last_64}
 use Rattle.lines.proofs.put_counts.Goals as goal
 use Rattle.lines.proofs.put_counts.Goals.{After-put_word-a}
 
--- how long its two numbers are
+-- how long its numbers are at most, the last with a space before it and the line's end
 long : (c : After-put_word-a)
     → (length (decimal c.args.applied) ≤ 20) × (length (last_of c.args.refused) ≤ 22)
 long c = (most_64 _ c.ranges.applied.fits, last_64 _ c.ranges.refused.fits)
 
--- what was put before each call
+-- each call has room, and together they put the text
 pub put_spaced-b-requires : goal.put_spaced-b-requires
 put_spaced-b-requires c =
     omega (arith, long (goal.at.put_spaced-b-requires c).After-put_word-a)

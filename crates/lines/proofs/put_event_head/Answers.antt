@@ -10,7 +10,7 @@ use Rattle.lines.proofs.Laws.{most_8}
 use Rattle.lines.proofs.put_event_head.Goals as goal
 use Rattle.lines.proofs.put_event_head.Goals.{Start}
 
--- how long its three numbers are
+-- how long its numbers are at most
 long : (c : Start)
     → (length (decimal c.args.place) ≤ 5)
     × ((length (decimal c.args.kind) ≤ 3) × (length (decimal c.args.answer) ≤ 3))
@@ -18,7 +18,7 @@ long c =
     let small = c.requires.0 in
     (decimal_most 4 _ small.0, (decimal_most 2 _ small.1, most_8 _ c.ranges.answer.fits))
 
--- what was put before each call
+-- each call has room, and together they put the text
 pub put_decimal-a-requires : goal.put_decimal-a-requires
 put_decimal-a-requires c =
     omega (arith, long (goal.at.put_decimal-a-requires c).Start)
@@ -34,8 +34,9 @@ put_spaced-requires c =
 pub returns : goal.returns
 unfolding event_head
 returns c =
-    let l = long (goal.at.returns c).Start in
     let p = c.put_decimal-a.ensures in
     let q = c.put_spaced-b.ensures in
-    let r = c.put_spaced.ensures in
-    (put_then p (put_then q r), omega (arith, p.past, q.past, r.past))
+    let r = c.put_spaced.ensures in (
+      put_then p (put_then q r),
+      omega (arith, long (goal.at.returns c).Start, p.past, q.past, r.past),
+    )

@@ -1,6 +1,4 @@
 -- `put_holder` puts a dash for nobody, else the digits of a number below 256: three at most.
-use mathlib.Core.List.{[], ◌∷◌}
-use mathlib.Core.Path.{◌≡◌}
 use Prim.Native.Nat.{◌≤◌}
 use native.Mathlib.Omega.{arith}
 use lib.ListN.{length}
@@ -11,7 +9,7 @@ use Rattle.lines.proofs.Laws.{most_8}
 use Rattle.lines.proofs.put_holder.Goals as goal
 use Rattle.lines.proofs.put_holder.Goals.{In-One}
 
--- how long the holder's number is
+-- how long the holder's number is at most
 long : (c : In-One) → length (decimal c.in-One.k.owner) ≤ 3
 long c = most_8 _ (search rules)
 
@@ -24,13 +22,10 @@ pub returns-in-Nobody : goal.returns-in-Nobody
 unfolding name_text
 returns-in-Nobody c =
     let p = c.put_byte.ensures in
-    let is : name_text c.args.m ≡ 45 ∷ [] = rw c.in-Nobody.is in
-    (rw is p, omega (arith, p.past))
+    (rw c.in-Nobody.is p, omega (arith, p.past))
 
 pub returns-in-One : goal.returns-in-One
 unfolding name_text
 returns-in-One c =
     let p = c.put_decimal.ensures in
-    let l = long (goal.at.returns-in-One c).In-One in
-    let is : name_text c.args.m ≡ decimal c.in-One.k.owner = rw c.in-One.is in
-    (rw is p, omega (arith, p.past))
+    (rw c.in-One.is p, omega (arith, long (goal.at.returns-in-One c).In-One, p.past))

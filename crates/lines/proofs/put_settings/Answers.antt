@@ -11,7 +11,7 @@ use Rattle.lines.proofs.Laws.{most_8, most_32, last_64}
 use Rattle.lines.proofs.put_settings.Goals as goal
 use Rattle.lines.proofs.put_settings.Goals.{Start}
 
--- how long its four numbers are
+-- how long its numbers are at most, the last with a space before it and the line's end
 long : (c : Start)
     → (length (decimal c.args.s.n) ≤ 3)
     × ((length (decimal c.args.s.longest) ≤ 10)
@@ -21,7 +21,7 @@ long c = (
   (most_32 _ (search rules), (most_32 _ (search rules), last_64 _ c.ranges.clock.fits)),
 )
 
--- what was put before each call
+-- each call has room, and together they put the text
 pub put_decimal-a-requires : goal.put_decimal-a-requires
 put_decimal-a-requires c =
     omega (arith, long (goal.at.put_decimal-a-requires c).Start)
@@ -41,11 +41,10 @@ put_last-requires c =
 pub returns : goal.returns
 unfolding line_text
 returns c =
-    let l = long (goal.at.returns c).Start in
     let p = c.put_decimal-a.ensures in
     let q = c.put_spaced-b.ensures in
     let r = c.put_spaced-c.ensures in
     let z = c.put_last.ensures in (
       put_then p (put_then q (put_then r z)),
-      omega (arith, p.past, q.past, r.past, z.past),
+      omega (arith, long (goal.at.returns c).Start, p.past, q.past, r.past, z.past),
     )

@@ -10,7 +10,7 @@ use Rattle.lines.proofs.Laws.{most_8, most_64, last_64}
 use Rattle.lines.proofs.put_stop.Goals as goal
 use Rattle.lines.proofs.put_stop.Goals.{After-put_word-a}
 
--- how long its three numbers are
+-- how long its numbers are at most, the last with a space before it and the line's end
 long : (c : After-put_word-a)
     → (length (decimal c.args.place) ≤ 20)
     × ((length (decimal c.args.number) ≤ 3) × (length (last_of c.args.offset) ≤ 22))
@@ -18,7 +18,7 @@ long c =
     let f = c.ranges in
     (most_64 _ f.place.fits, (most_8 _ f.number.fits, last_64 _ f.offset.fits))
 
--- what was put before each call
+-- each call has room, and together they put the text
 pub put_spaced-b-requires : goal.put_spaced-b-requires
 put_spaced-b-requires c =
     omega (arith, long (goal.at.put_spaced-b-requires c).After-put_word-a)
@@ -34,11 +34,10 @@ put_last-requires c =
 pub returns : goal.returns
 unfolding line_text
 returns c =
-    let l = long (goal.at.returns c).After-put_word-a in
     let p = c.put_word-a.ensures in
     let q = c.put_spaced-b.ensures in
     let r = c.put_spaced-c.ensures in
     let z = c.put_last.ensures in (
       put_then p (put_then q (put_then r z)),
-      omega (arith, p.past, q.past, r.past, z.past),
+      omega (arith, long (goal.at.returns c).After-put_word-a, p.past, q.past, r.past, z.past),
     )
