@@ -1,25 +1,17 @@
 -- `put_last` puts a space and the number, then the line's end behind them.
 use native.Mathlib.Omega.{arith}
-use borrow.Author.Rules.{rules}
 use Rattle.text.proofs.Laws.{put_then}
 use Rattle.lines.specs.Lines.{last_of}
 use Rattle.lines.proofs.Laws.{last_length}
 use Rattle.lines.proofs.put_last.Goals as goal
 
 pub put_spaced-end-requires : goal.put_spaced-end-requires
-unfolding last_of
 put_spaced-end-requires c =
     omega (arith, last_length c.args.n)
 
 pub put_byte-requires : goal.put_byte-requires
-unfolding last_of
 put_byte-requires c =
     omega (arith, last_length c.args.n)
-
-pub shape_of-out : goal.shape_of-out
-unfolding last_of
-shape_of-out c =
-    search rules
 
 pub returns : goal.returns
 unfolding last_of

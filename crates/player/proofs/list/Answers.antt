@@ -1,16 +1,10 @@
 -- `list` leaves a room that is too short as it is, and else has the listing's bytes in front.
 use native.Mathlib.Omega.{arith}
-use borrow.Author.Rules.{rules}
 use borrow.Author.Tests.{lt-ltb, le-ltb}
 use Rattle.text.proofs.Laws.{put_front, put_size}
 use Rattle.listing.specs.Listing.{listed_of, after_listing}
 use Rattle.player.proofs.Opening.{counts_bytes}
 use Rattle.player.proofs.list.Goals as goal
-
-pub room_for-requires : goal.room_for-requires
-unfolding listed_of after_listing
-room_for-requires c =
-    search rules
 
 pub returns-then-out-room_for : goal.returns-then-out-room_for
 unfolding listed_of after_listing
@@ -23,14 +17,8 @@ returns-then-out-room_for c =
     )
 
 pub put_listing-len-requires : goal.put_listing-len-requires
-unfolding listed_of after_listing
 put_listing-len-requires c =
     rw (← c.room_for.ensures) c.if-out-room_for.false
-
-pub shape_of-out : goal.shape_of-out
-unfolding listed_of after_listing
-shape_of-out c =
-    search rules
 
 pub returns : goal.returns
 unfolding listed_of after_listing
