@@ -11,75 +11,20 @@ use Rattle.message.specs.Message.{last_tick}
 use Rattle.acts.specs.Parts.{ticks_of, clock_after}
 use Rattle.acts.proofs.clock_after.Goals as goal
 
-pub ticks_of-d-requires : goal.ticks_of-d-requires
-unfolding clock_after last_tick
-ticks_of-d-requires c =
-    search rules
-
 pub returns-then-d-gt-LAST_TICK : goal.returns-then-d-gt-LAST_TICK
 unfolding clock_after last_tick
 returns-then-d-gt-LAST_TICK c =
     rw (← c.ticks_of-d.ensures, lt-leb _ _ c.if-d-gt-LAST_TICK.true)
-
-pub enum_told-1 : goal.enum_told-1
-unfolding clock_after last_tick
-enum_told-1 c =
-    search rules
 
 pub overflow_add-result : goal.overflow_add-result
 unfolding clock_after last_tick
 overflow_add-result c =
     omega (arith, c.if-d-gt-LAST_TICK.false, c.requires)
 
-pub enum_known-e : goal.enum_known-e
-unfolding clock_after last_tick
-enum_known-e c =
-    search rules
-
-pub overflow_cast-host : goal.overflow_cast-host
-unfolding clock_after last_tick
-overflow_cast-host c =
-    search rules
-
 pub overflow_add-clock : goal.overflow_add-clock
 unfolding clock_after last_tick
 overflow_add-clock c =
     omega (arith, c.if-d-gt-LAST_TICK.false, c.requires)
-
-pub clock_with-requires : goal.clock_with-requires
-unfolding clock_after last_tick
-clock_with-requires c =
-    search rules
-
-pub enum_told-in-Start : goal.enum_told-in-Start
-unfolding clock_after last_tick
-enum_told-in-Start c =
-    search rules
-
-pub enum_told-in-Deliver : goal.enum_told-in-Deliver
-unfolding clock_after last_tick
-enum_told-in-Deliver c =
-    search rules
-
-pub enum_told-in-Lose : goal.enum_told-in-Lose
-unfolding clock_after last_tick
-enum_told-in-Lose c =
-    search rules
-
-pub enum_told-in-Repeat : goal.enum_told-in-Repeat
-unfolding clock_after last_tick
-enum_told-in-Repeat c =
-    search rules
-
-pub enum_told-in-Restart : goal.enum_told-in-Restart
-unfolding clock_after last_tick
-enum_told-in-Restart c =
-    search rules
-
-pub enum_told-in-Release : goal.enum_told-in-Release
-unfolding clock_after last_tick
-enum_told-in-Release c =
-    search rules
 
 pub returns-in-AdvanceAll : goal.returns-in-AdvanceAll
 unfolding clock_after last_tick

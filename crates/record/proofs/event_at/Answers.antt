@@ -11,21 +11,11 @@ use Rattle.record.proofs.Laws.{length_least, after_host, first_value}
 use borrow.Author.Rules.{rules}
 use Rattle.record.proofs.event_at.Goals as goal
 
-pub overflow_add-at : goal.overflow_add-at
-unfolding record_length widths_of total numbers_at event_with
-overflow_add-at c =
-    search rules
-
 pub get-requires : goal.get-requires
 unfolding record_length widths_of total numbers_at event_with
 get-requires c =
     let h = rw c.in-101.is at c.requires in
     (omega arith, omega arith)
-
-pub overflow_add-at-in-102 : goal.overflow_add-at-in-102
-unfolding record_length widths_of total numbers_at event_with
-overflow_add-at-in-102 c =
-    search rules
 
 pub byte-host-requires : goal.byte-host-requires
 unfolding record_length widths_of total numbers_at event_with
@@ -33,21 +23,11 @@ byte-host-requires c =
     (let x : c.args.at + 4 < length c.args.run.now =
     omega (arith, c.requires, length_least c.args.kind) in x)
 
-pub overflow_add-at-in-102-2 : goal.overflow_add-at-in-102-2
-unfolding record_length widths_of total numbers_at event_with
-overflow_add-at-in-102-2 c =
-    search rules
-
 pub get-requires-in-102 : goal.get-requires-in-102
 unfolding record_length widths_of total numbers_at event_with
 get-requires-in-102 c =
     let h = rw c.in-102.is at c.requires in
     (omega arith, omega arith)
-
-pub overflow_add-at-in-103 : goal.overflow_add-at-in-103
-unfolding record_length widths_of total numbers_at event_with
-overflow_add-at-in-103 c =
-    search rules
 
 pub byte-host-requires-in-103 : goal.byte-host-requires-in-103
 unfolding record_length widths_of total numbers_at event_with
@@ -55,26 +35,11 @@ byte-host-requires-in-103 c =
     (let x : c.args.at + 4 < length c.args.run.now =
     omega (arith, c.requires, length_least c.args.kind) in x)
 
-pub overflow_add-at-in-103-2 : goal.overflow_add-at-in-103-2
-unfolding record_length widths_of total numbers_at event_with
-overflow_add-at-in-103-2 c =
-    search rules
-
 pub get-requires-in-103 : goal.get-requires-in-103
 unfolding record_length widths_of total numbers_at event_with
 get-requires-in-103 c =
     let h = rw c.in-103.is at c.requires in
     (omega arith, omega arith)
-
-pub overflow_cast-result : goal.overflow_cast-result
-unfolding record_length widths_of total numbers_at event_with
-overflow_cast-result c =
-    search rules
-
-pub overflow_add-at-in-104 : goal.overflow_add-at-in-104
-unfolding record_length widths_of total numbers_at event_with
-overflow_add-at-in-104 c =
-    search rules
 
 pub byte-requires : goal.byte-requires
 unfolding record_length widths_of total numbers_at event_with
@@ -82,21 +47,11 @@ byte-requires c =
     (let x : c.args.at + 4 < length c.args.run.now =
     omega (arith, c.requires, length_least c.args.kind) in x)
 
-pub overflow_add-at-in-105 : goal.overflow_add-at-in-105
-unfolding record_length widths_of total numbers_at event_with
-overflow_add-at-in-105 c =
-    search rules
-
 pub byte-requires-in-105 : goal.byte-requires-in-105
 unfolding record_length widths_of total numbers_at event_with
 byte-requires-in-105 c =
     (let x : c.args.at + 4 < length c.args.run.now =
     omega (arith, c.requires, length_least c.args.kind) in x)
-
-pub overflow_add-at-in-106 : goal.overflow_add-at-in-106
-unfolding record_length widths_of total numbers_at event_with
-overflow_add-at-in-106 c =
-    search rules
 
 pub byte-requires-in-106 : goal.byte-requires-in-106
 unfolding record_length widths_of total numbers_at event_with
@@ -104,21 +59,11 @@ byte-requires-in-106 c =
     (let x : c.args.at + 4 < length c.args.run.now =
     omega (arith, c.requires, length_least c.args.kind) in x)
 
-pub overflow_add-at-in-107 : goal.overflow_add-at-in-107
-unfolding record_length widths_of total numbers_at event_with
-overflow_add-at-in-107 c =
-    search rules
-
 pub byte-requires-in-107 : goal.byte-requires-in-107
 unfolding record_length widths_of total numbers_at event_with
 byte-requires-in-107 c =
     (let x : c.args.at + 4 < length c.args.run.now =
     omega (arith, c.requires, length_least c.args.kind) in x)
-
-pub overflow_add-at-in_default : goal.overflow_add-at-in_default
-unfolding record_length widths_of total numbers_at event_with
-overflow_add-at-in_default c =
-    search rules
 
 pub byte-requires-in_default : goal.byte-requires-in_default
 unfolding record_length widths_of total numbers_at event_with

@@ -11,31 +11,6 @@ use Rattle.record.proofs.Laws.{first_whole}
 use borrow.Author.Rules.{rules}
 use Rattle.record.proofs.first_record.Goals as goal
 
-pub head_at-head-requires : goal.head_at-head-requires
-unfolding first_record widths_of numbers_at
-head_at-head-requires c =
-    search rules
-
-pub enum_told-1 : goal.enum_told-1
-unfolding first_record widths_of numbers_at
-enum_told-1 c =
-    search rules
-
-pub enum_told-in_default : goal.enum_told-in_default
-unfolding first_record widths_of numbers_at
-enum_told-in_default c =
-    search rules
-
-pub head_fault-requires : goal.head_fault-requires
-unfolding first_record widths_of numbers_at
-head_fault-requires c =
-    search rules
-
-pub head_offset-requires : goal.head_offset-requires
-unfolding first_record widths_of numbers_at
-head_offset-requires c =
-    search rules
-
 pub returns-in_default : goal.returns-in_default
 unfolding first_record widths_of numbers_at
 returns-in_default c =
@@ -64,11 +39,6 @@ get-longest-requires c =
       omega arith,
     )
 
-pub overflow_cast-longest : goal.overflow_cast-longest
-unfolding first_record widths_of numbers_at
-overflow_cast-longest c =
-    search rules
-
 pub get-spread-requires : goal.get-spread-requires
 unfolding first_record widths_of numbers_at
 get-spread-requires c =
@@ -77,11 +47,6 @@ get-spread-requires c =
       omega arith,
       omega arith,
     )
-
-pub overflow_cast-spread : goal.overflow_cast-spread
-unfolding first_record widths_of numbers_at
-overflow_cast-spread c =
-    search rules
 
 pub get-clock-requires : goal.get-clock-requires
 unfolding first_record widths_of numbers_at

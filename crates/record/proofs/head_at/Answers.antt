@@ -28,35 +28,10 @@ returns-then-run-at c =
     let a = c.args in
     let none : length a.run.now - a.at ≡ 0 = omega arith in rw none
 
-pub overflow_sub-left : goal.overflow_sub-left
-unfolding head_of record_fault fault_offset first_of all_of tests_in fails_at offset_in
-overflow_sub-left c =
-    search rules
-
 pub returns-then-left-lt-FORE_LENGTH : goal.returns-then-left-lt-FORE_LENGTH
 unfolding head_of record_fault fault_offset first_of all_of tests_in fails_at offset_in
 returns-then-left-lt-FORE_LENGTH c =
     rw (lt-leb _ _ c.if-left-lt-FORE_LENGTH.true)
-
-pub overflow_add-at : goal.overflow_add-at
-unfolding head_of record_fault fault_offset first_of all_of tests_in fails_at offset_in
-overflow_add-at c =
-    search rules
-
-pub get-kind-requires : goal.get-kind-requires
-unfolding head_of record_fault fault_offset first_of all_of tests_in fails_at offset_in
-get-kind-requires c =
-    search rules
-
-pub overflow_cast-kind : goal.overflow_cast-kind
-unfolding head_of record_fault fault_offset first_of all_of tests_in fails_at offset_in
-overflow_cast-kind c =
-    search rules
-
-pub is_allowed-requires : goal.is_allowed-requires
-unfolding head_of record_fault fault_offset first_of all_of tests_in fails_at offset_in
-is_allowed-requires c =
-    search rules
 
 pub returns-then-not-is_allowed : goal.returns-then-not-is_allowed
 unfolding head_of record_fault fault_offset first_of all_of tests_in fails_at offset_in
@@ -69,21 +44,6 @@ returns-then-not-is_allowed c =
       ← k.ensures,
       c.if-not-is_allowed.true,
     )
-
-pub record_length-len-requires : goal.record_length-len-requires
-unfolding head_of record_fault fault_offset first_of all_of tests_in fails_at offset_in
-record_length-len-requires c =
-    search rules
-
-pub overflow_add-at-2 : goal.overflow_add-at-2
-unfolding head_of record_fault fault_offset first_of all_of tests_in fails_at offset_in
-overflow_add-at-2 c =
-    search rules
-
-pub get-told-requires : goal.get-told-requires
-unfolding head_of record_fault fault_offset first_of all_of tests_in fails_at offset_in
-get-told-requires c =
-    search rules
 
 pub returns-then-told-len : goal.returns-then-told-len
 unfolding head_of record_fault fault_offset first_of all_of tests_in fails_at offset_in
@@ -149,11 +109,6 @@ returns-then-left-len c =
           rw (← c.get-told.ensures.0) (le-leb _ _ c.if-len-told.false) in x),
       lt-leb _ _ c.if-left-len.true,
     )
-
-pub overflow_add-result : goal.overflow_add-result
-unfolding head_of record_fault fault_offset first_of all_of tests_in fails_at offset_in
-overflow_add-result c =
-    search rules
 
 pub returns : goal.returns
 unfolding head_of record_fault fault_offset first_of all_of tests_in fails_at offset_in

@@ -16,11 +16,6 @@ use Rattle.record.specs.Record.{widths_of, field_offset, opening_offset}
 use Rattle.record.proofs.Laws.{longest_refused, longest_fits}
 use Rattle.record.proofs.opening_offset.Goals as goal
 
-pub cell_fits-requires : goal.cell_fits-requires
-unfolding opening_offset tests_in fails_at field_offset widths_of total last_longest last_tick
-cell_fits-requires c =
-    search rules
-
 pub returns-then-not-cell_fits : goal.returns-then-not-cell_fits
 unfolding opening_offset tests_in fails_at field_offset widths_of total last_longest last_tick
 returns-then-not-cell_fits c =
