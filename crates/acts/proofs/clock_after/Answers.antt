@@ -1,6 +1,5 @@
 -- `clock_after` is `clock_after`: an advance by more than 2^48 leaves the clock, and any other has
 -- room: both numbers are at most 2^48.
--- the ticks are at most 2^48
 use mathlib.Core.Path.{◌≡◌}
 use mathlib.Core.Bool.{true}
 use native.Mathlib.Omega.{arith}
@@ -10,6 +9,12 @@ use borrow.Author.Rules.{rules}
 use Rattle.message.specs.Message.{last_tick}
 use Rattle.acts.specs.Parts.{ticks_of, clock_after}
 use Rattle.acts.proofs.clock_after.Goals as goal
+use Rattle.acts.proofs.clock_after.Goals.{Else-d-gt-LAST_TICK}
+
+-- the ticks are at most 2^48
+few : (c : Else-d-gt-LAST_TICK) → leb (ticks_of c.args.e) last_tick ≡ true
+unfolding last_tick
+few c = rw (← c.ticks_of-d.ensures) (le-leb _ _ c.if-d-gt-LAST_TICK.false)
 
 pub returns-then-d-gt-LAST_TICK : goal.returns-then-d-gt-LAST_TICK
 unfolding clock_after last_tick
@@ -31,8 +36,7 @@ unfolding clock_after last_tick
 returns-in-AdvanceAll c =
     rw (
       c.ticks_of-d.ensures,
-      (let x : leb (ticks_of c.args.e) last_tick ≡ true =
-          rw (← c.ticks_of-d.ensures, le-leb _ _ c.if-d-gt-LAST_TICK.false) in x),
+      few (goal.at.returns-in-AdvanceAll c).Else-d-gt-LAST_TICK,
       c.in-AdvanceAll.is,
     )
 
@@ -42,8 +46,7 @@ returns-in-AdvanceOne c =
     rw (
       c.clock_with.ensures,
       c.ticks_of-d.ensures,
-      (let x : leb (ticks_of c.args.e) last_tick ≡ true =
-          rw (← c.ticks_of-d.ensures, le-leb _ _ c.if-d-gt-LAST_TICK.false) in x),
+      few (goal.at.returns-in-AdvanceOne c).Else-d-gt-LAST_TICK,
       c.in-AdvanceOne.is,
     )
 
@@ -51,8 +54,7 @@ pub returns-in-Start : goal.returns-in-Start
 unfolding clock_after last_tick
 returns-in-Start c =
     rw (
-      (let x : leb (ticks_of c.args.e) last_tick ≡ true =
-          rw (← c.ticks_of-d.ensures, le-leb _ _ c.if-d-gt-LAST_TICK.false) in x),
+      few (goal.at.returns-in-Start c).Else-d-gt-LAST_TICK,
       c.in-Start.is,
     )
 
@@ -60,8 +62,7 @@ pub returns-in-Deliver : goal.returns-in-Deliver
 unfolding clock_after last_tick
 returns-in-Deliver c =
     rw (
-      (let x : leb (ticks_of c.args.e) last_tick ≡ true =
-          rw (← c.ticks_of-d.ensures, le-leb _ _ c.if-d-gt-LAST_TICK.false) in x),
+      few (goal.at.returns-in-Deliver c).Else-d-gt-LAST_TICK,
       c.in-Deliver.is,
     )
 
@@ -69,8 +70,7 @@ pub returns-in-Lose : goal.returns-in-Lose
 unfolding clock_after last_tick
 returns-in-Lose c =
     rw (
-      (let x : leb (ticks_of c.args.e) last_tick ≡ true =
-          rw (← c.ticks_of-d.ensures, le-leb _ _ c.if-d-gt-LAST_TICK.false) in x),
+      few (goal.at.returns-in-Lose c).Else-d-gt-LAST_TICK,
       c.in-Lose.is,
     )
 
@@ -78,8 +78,7 @@ pub returns-in-Repeat : goal.returns-in-Repeat
 unfolding clock_after last_tick
 returns-in-Repeat c =
     rw (
-      (let x : leb (ticks_of c.args.e) last_tick ≡ true =
-          rw (← c.ticks_of-d.ensures, le-leb _ _ c.if-d-gt-LAST_TICK.false) in x),
+      few (goal.at.returns-in-Repeat c).Else-d-gt-LAST_TICK,
       c.in-Repeat.is,
     )
 
@@ -87,8 +86,7 @@ pub returns-in-Restart : goal.returns-in-Restart
 unfolding clock_after last_tick
 returns-in-Restart c =
     rw (
-      (let x : leb (ticks_of c.args.e) last_tick ≡ true =
-          rw (← c.ticks_of-d.ensures, le-leb _ _ c.if-d-gt-LAST_TICK.false) in x),
+      few (goal.at.returns-in-Restart c).Else-d-gt-LAST_TICK,
       c.in-Restart.is,
     )
 
@@ -96,7 +94,6 @@ pub returns-in-Release : goal.returns-in-Release
 unfolding clock_after last_tick
 returns-in-Release c =
     rw (
-      (let x : leb (ticks_of c.args.e) last_tick ≡ true =
-          rw (← c.ticks_of-d.ensures, le-leb _ _ c.if-d-gt-LAST_TICK.false) in x),
+      few (goal.at.returns-in-Release c).Else-d-gt-LAST_TICK,
       c.in-Release.is,
     )

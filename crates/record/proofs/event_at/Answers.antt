@@ -1,6 +1,5 @@
 -- `event_at`: each arm knows its kind, and so that its fields lie within the bytes; the last knows
 -- only that its kind is none of the others.
--- every record has a byte after its first two fields
 use Prim.Native.Nat.{◌+◌, ◌<◌}
 use native.Mathlib.Omega.{arith}
 use lib.ListN.{length}
@@ -10,6 +9,11 @@ use Rattle.record.specs.Record.{widths_of, record_length, event_with}
 use Rattle.record.proofs.Laws.{length_least, after_host, first_value}
 use borrow.Author.Rules.{rules}
 use Rattle.record.proofs.event_at.Goals as goal
+use Rattle.record.proofs.event_at.Goals.{Start}
+
+-- every record has a byte after its first two fields
+there : (c : Start) → c.args.at + 4 < length c.args.run.now
+there c = omega (arith, c.requires, length_least c.args.kind)
 
 pub get-requires : goal.get-requires
 unfolding record_length widths_of total numbers_at event_with
@@ -20,8 +24,7 @@ get-requires c =
 pub byte-host-requires : goal.byte-host-requires
 unfolding record_length widths_of total numbers_at event_with
 byte-host-requires c =
-    (let x : c.args.at + 4 < length c.args.run.now =
-    omega (arith, c.requires, length_least c.args.kind) in x)
+    there (goal.at.byte-host-requires c).Start
 
 pub get-requires-in-102 : goal.get-requires-in-102
 unfolding record_length widths_of total numbers_at event_with
@@ -32,8 +35,7 @@ get-requires-in-102 c =
 pub byte-host-requires-in-103 : goal.byte-host-requires-in-103
 unfolding record_length widths_of total numbers_at event_with
 byte-host-requires-in-103 c =
-    (let x : c.args.at + 4 < length c.args.run.now =
-    omega (arith, c.requires, length_least c.args.kind) in x)
+    there (goal.at.byte-host-requires-in-103 c).Start
 
 pub get-requires-in-103 : goal.get-requires-in-103
 unfolding record_length widths_of total numbers_at event_with
@@ -44,32 +46,27 @@ get-requires-in-103 c =
 pub byte-requires : goal.byte-requires
 unfolding record_length widths_of total numbers_at event_with
 byte-requires c =
-    (let x : c.args.at + 4 < length c.args.run.now =
-    omega (arith, c.requires, length_least c.args.kind) in x)
+    there (goal.at.byte-requires c).Start
 
 pub byte-requires-in-105 : goal.byte-requires-in-105
 unfolding record_length widths_of total numbers_at event_with
 byte-requires-in-105 c =
-    (let x : c.args.at + 4 < length c.args.run.now =
-    omega (arith, c.requires, length_least c.args.kind) in x)
+    there (goal.at.byte-requires-in-105 c).Start
 
 pub byte-requires-in-106 : goal.byte-requires-in-106
 unfolding record_length widths_of total numbers_at event_with
 byte-requires-in-106 c =
-    (let x : c.args.at + 4 < length c.args.run.now =
-    omega (arith, c.requires, length_least c.args.kind) in x)
+    there (goal.at.byte-requires-in-106 c).Start
 
 pub byte-requires-in-107 : goal.byte-requires-in-107
 unfolding record_length widths_of total numbers_at event_with
 byte-requires-in-107 c =
-    (let x : c.args.at + 4 < length c.args.run.now =
-    omega (arith, c.requires, length_least c.args.kind) in x)
+    there (goal.at.byte-requires-in-107 c).Start
 
 pub byte-requires-in_default : goal.byte-requires-in_default
 unfolding record_length widths_of total numbers_at event_with
 byte-requires-in_default c =
-    (let x : c.args.at + 4 < length c.args.run.now =
-    omega (arith, c.requires, length_least c.args.kind) in x)
+    there (goal.at.byte-requires-in_default c).Start
 
 pub returns-in-101 : goal.returns-in-101
 unfolding record_length widths_of total numbers_at event_with

@@ -1,5 +1,4 @@
 -- `head_at` is `head_of`: each refusal in its order, and the head where all are passed.
--- from each test that is passed to the one before it
 use mathlib.Core.Path.{◌≡◌, sym, ap, ◌∙◌}
 use mathlib.Core.Bool.{true}
 use Prim.Native.Nat.{◌-◌}
@@ -15,12 +14,36 @@ use Rattle.record.specs.Record.{is_allowed, record_length, left_at, told_length_
 use Rattle.record.specs.Record.{record_fault, fault_offset, head_of}
 use borrow.Author.Rules.{rules}
 use Rattle.record.proofs.head_at.Goals as goal
-use Rattle.record.proofs.head_at.Goals.{Else-left-len}
+use Rattle.record.proofs.head_at.Goals.{Else-left-lt-FORE_LENGTH, Else-not-is_allowed}
+use Rattle.record.proofs.head_at.Goals.{After-record_length-len, Else-told-len, Else-len-told}
+
+-- ---- what each test that is passed tells
+
+-- four bytes are left
+fore : (c : Else-left-lt-FORE_LENGTH) → let a = c.args in leb 4 (left_at a.run.now a.at) ≡ true
+fore c = le-leb _ _ c.if-left-lt-FORE_LENGTH.false
+
+-- the told kind is allowed there
+known : (c : Else-not-is_allowed) → let a = c.args in
+    is_allowed a.first (told_kind_at a.run.now a.at) ≡ true
+known c = rw (← c.get-kind.ensures.0) (told c.is_allowed.ensures c.if-not-is_allowed.false)
+
+-- and has the length that was found
+long : (c : After-record_length-len) → let a = c.args in
+    record_length (told_kind_at a.run.now a.at) ≡ c.record_length-len.result
+long c = sym (c.record_length-len.ensures ∙ ap record_length c.get-kind.ensures.0)
 
 -- the told length is not below the kind's
-not-short : (c : Else-left-len) → let a = c.args in
+not-short : (c : Else-told-len) → let a = c.args in
     leb c.record_length-len.result (told_length_at a.run.now a.at) ≡ true
 not-short c = rw (← c.get-told.ensures.0) (le-leb _ _ c.if-told-len.false)
+
+-- and not above it
+not-long : (c : Else-len-told) → let a = c.args in
+    leb (told_length_at a.run.now a.at) c.record_length-len.result ≡ true
+not-long c = rw (← c.get-told.ensures.0) (le-leb _ _ c.if-len-told.false)
+
+-- ---- the answers
 
 pub returns-then-run-at : goal.returns-then-run-at
 unfolding head_of record_fault fault_offset first_of all_of tests_in fails_at offset_in
@@ -36,30 +59,20 @@ returns-then-left-lt-FORE_LENGTH c =
 pub returns-then-not-is_allowed : goal.returns-then-not-is_allowed
 unfolding head_of record_fault fault_offset first_of all_of tests_in fails_at offset_in
 returns-then-not-is_allowed c =
-    let k = c.is_allowed in
     rw (
-      (let x : let a = c.args in leb 4 (left_at a.run.now a.at) ≡ true =
-          le-leb _ _ c.if-left-lt-FORE_LENGTH.false in x),
+      fore (goal.at.returns-then-not-is_allowed c).Else-left-lt-FORE_LENGTH,
       ← c.get-kind.ensures.0,
-      ← k.ensures,
+      ← c.is_allowed.ensures,
       c.if-not-is_allowed.true,
     )
 
 pub returns-then-told-len : goal.returns-then-told-len
 unfolding head_of record_fault fault_offset first_of all_of tests_in fails_at offset_in
 returns-then-told-len c =
-    let k = c.before.before in
     rw (
-      (let x : let a = c.args in leb 4 (left_at a.run.now a.at) ≡ true =
-          le-leb _ _ c.if-left-lt-FORE_LENGTH.false in x),
-      (let x : let a = c.args in
-          is_allowed a.first (told_kind_at a.run.now a.at) ≡ true = let k = c.is_allowed in
-          let e = told k.ensures (c.if-not-is_allowed.false) in
-          rw (← c.get-kind.ensures.0) e in x),
-      (let x : let a = c.args in
-          record_length (told_kind_at a.run.now a.at) ≡ c.record_length-len.result =
-          let k = c.get-kind in
-          sym (c.record_length-len.ensures ∙ ap record_length k.ensures.0) in x),
+      fore (goal.at.returns-then-told-len c).Else-left-lt-FORE_LENGTH,
+      known (goal.at.returns-then-told-len c).Else-not-is_allowed,
+      long (goal.at.returns-then-told-len c).After-record_length-len,
       ← c.get-told.ensures.0,
       lt-leb _ _ c.if-told-len.true,
     )
@@ -67,21 +80,11 @@ returns-then-told-len c =
 pub returns-then-len-told : goal.returns-then-len-told
 unfolding head_of record_fault fault_offset first_of all_of tests_in fails_at offset_in
 returns-then-len-told c =
-    let k = c.before.before.before in
     rw (
-      (let x : let a = c.args in leb 4 (left_at a.run.now a.at) ≡ true =
-          le-leb _ _ c.if-left-lt-FORE_LENGTH.false in x),
-      (let x : let a = c.args in
-          is_allowed a.first (told_kind_at a.run.now a.at) ≡ true = let k = c.is_allowed in
-          let e = told k.ensures (c.if-not-is_allowed.false) in
-          rw (← c.get-kind.ensures.0) e in x),
-      (let x : let a = c.args in
-          record_length (told_kind_at a.run.now a.at) ≡ c.record_length-len.result =
-          let k = c.get-kind in
-          sym (c.record_length-len.ensures ∙ ap record_length k.ensures.0) in x),
-      (let x : let a = c.args in
-          leb c.record_length-len.result (told_length_at a.run.now a.at) ≡ true =
-          rw (← c.get-told.ensures.0) (le-leb _ _ c.if-told-len.false) in x),
+      fore (goal.at.returns-then-len-told c).Else-left-lt-FORE_LENGTH,
+      known (goal.at.returns-then-len-told c).Else-not-is_allowed,
+      long (goal.at.returns-then-len-told c).After-record_length-len,
+      not-short (goal.at.returns-then-len-told c).Else-told-len,
       ← c.get-told.ensures.0,
       lt-leb _ _ c.if-len-told.true,
     )
@@ -89,24 +92,12 @@ returns-then-len-told c =
 pub returns-then-left-len : goal.returns-then-left-len
 unfolding head_of record_fault fault_offset first_of all_of tests_in fails_at offset_in
 returns-then-left-len c =
-    let k = c.before.before.before.before in
     rw (
-      (let x : let a = c.args in leb 4 (left_at a.run.now a.at) ≡ true =
-          le-leb _ _ c.if-left-lt-FORE_LENGTH.false in x),
-      (let x : let a = c.args in
-          is_allowed a.first (told_kind_at a.run.now a.at) ≡ true = let k = c.is_allowed in
-          let e = told k.ensures (c.if-not-is_allowed.false) in
-          rw (← c.get-kind.ensures.0) e in x),
-      (let x : let a = c.args in
-          record_length (told_kind_at a.run.now a.at) ≡ c.record_length-len.result =
-          let k = c.get-kind in
-          sym (c.record_length-len.ensures ∙ ap record_length k.ensures.0) in x),
-      (let x : let a = c.args in
-          leb c.record_length-len.result (told_length_at a.run.now a.at) ≡ true =
-          rw (← c.get-told.ensures.0) (le-leb _ _ c.if-told-len.false) in x),
-      (let x : let a = c.args in
-          leb (told_length_at a.run.now a.at) c.record_length-len.result ≡ true =
-          rw (← c.get-told.ensures.0) (le-leb _ _ c.if-len-told.false) in x),
+      fore (goal.at.returns-then-left-len c).Else-left-lt-FORE_LENGTH,
+      known (goal.at.returns-then-left-len c).Else-not-is_allowed,
+      long (goal.at.returns-then-left-len c).After-record_length-len,
+      not-short (goal.at.returns-then-left-len c).Else-told-len,
+      not-long (goal.at.returns-then-left-len c).Else-len-told,
       lt-leb _ _ c.if-left-len.true,
     )
 
@@ -114,20 +105,11 @@ pub returns : goal.returns
 unfolding head_of record_fault fault_offset first_of all_of tests_in fails_at offset_in
 returns c =
     rw (
-      (let x : let a = c.args in leb 4 (left_at a.run.now a.at) ≡ true =
-          le-leb _ _ c.if-left-lt-FORE_LENGTH.false in x),
-      (let x : let a = c.args in
-          is_allowed a.first (told_kind_at a.run.now a.at) ≡ true = let k = c.is_allowed in
-          let e = told k.ensures (c.if-not-is_allowed.false) in
-          rw (← c.get-kind.ensures.0) e in x),
-      (let x : let a = c.args in
-          record_length (told_kind_at a.run.now a.at) ≡ c.record_length-len.result =
-          let k = c.get-kind in
-          sym (c.record_length-len.ensures ∙ ap record_length k.ensures.0) in x),
-      not-short c,
-      (let x : let a = c.args in
-          leb (told_length_at a.run.now a.at) c.record_length-len.result ≡ true =
-          rw (← c.get-told.ensures.0) (le-leb _ _ c.if-len-told.false) in x),
+      fore (goal.at.returns c).Else-left-lt-FORE_LENGTH,
+      known (goal.at.returns c).Else-not-is_allowed,
+      long (goal.at.returns c).After-record_length-len,
+      not-short (goal.at.returns c).Else-told-len,
+      not-long (goal.at.returns c).Else-len-told,
       le-leb _ _ c.if-left-len.false,
       ← c.get-kind.ensures.0,
     )
