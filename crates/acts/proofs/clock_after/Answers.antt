@@ -22,17 +22,17 @@ returns-then-d-gt-LAST_TICK c =
     rw (← c.ticks_of-d.ensures, lt-leb _ _ c.if-d-gt-LAST_TICK.true)
 
 pub overflow_add-result : goal.overflow_add-result
-unfolding clock_after last_tick
+unfolding last_tick
 overflow_add-result c =
     omega (arith, c.if-d-gt-LAST_TICK.false, c.requires)
 
 pub overflow_add-clock : goal.overflow_add-clock
-unfolding clock_after last_tick
+unfolding last_tick
 overflow_add-clock c =
     omega (arith, c.if-d-gt-LAST_TICK.false, c.requires)
 
 pub returns-in-AdvanceAll : goal.returns-in-AdvanceAll
-unfolding clock_after last_tick
+unfolding clock_after
 returns-in-AdvanceAll c =
     rw (
       c.ticks_of-d.ensures,
@@ -41,7 +41,7 @@ returns-in-AdvanceAll c =
     )
 
 pub returns-in-AdvanceOne : goal.returns-in-AdvanceOne
-unfolding clock_after last_tick
+unfolding clock_after
 returns-in-AdvanceOne c =
     rw (
       c.clock_with.ensures,
@@ -51,7 +51,7 @@ returns-in-AdvanceOne c =
     )
 
 pub returns-in-Start : goal.returns-in-Start
-unfolding clock_after last_tick
+unfolding clock_after
 returns-in-Start c =
     rw (
       few (goal.at.returns-in-Start c).Else-d-gt-LAST_TICK,
@@ -59,7 +59,7 @@ returns-in-Start c =
     )
 
 pub returns-in-Deliver : goal.returns-in-Deliver
-unfolding clock_after last_tick
+unfolding clock_after
 returns-in-Deliver c =
     rw (
       few (goal.at.returns-in-Deliver c).Else-d-gt-LAST_TICK,
@@ -67,7 +67,7 @@ returns-in-Deliver c =
     )
 
 pub returns-in-Lose : goal.returns-in-Lose
-unfolding clock_after last_tick
+unfolding clock_after
 returns-in-Lose c =
     rw (
       few (goal.at.returns-in-Lose c).Else-d-gt-LAST_TICK,
@@ -75,7 +75,7 @@ returns-in-Lose c =
     )
 
 pub returns-in-Repeat : goal.returns-in-Repeat
-unfolding clock_after last_tick
+unfolding clock_after
 returns-in-Repeat c =
     rw (
       few (goal.at.returns-in-Repeat c).Else-d-gt-LAST_TICK,
@@ -83,7 +83,7 @@ returns-in-Repeat c =
     )
 
 pub returns-in-Restart : goal.returns-in-Restart
-unfolding clock_after last_tick
+unfolding clock_after
 returns-in-Restart c =
     rw (
       few (goal.at.returns-in-Restart c).Else-d-gt-LAST_TICK,
@@ -91,7 +91,7 @@ returns-in-Restart c =
     )
 
 pub returns-in-Release : goal.returns-in-Release
-unfolding clock_after last_tick
+unfolding clock_after
 returns-in-Release c =
     rw (
       few (goal.at.returns-in-Release c).Else-d-gt-LAST_TICK,

@@ -16,7 +16,7 @@ there : (c : In-Whole) → 21 ≤ length c.args.run.now
 there c = first_whole _ _ _ (told c.head_at-head.ensures c.in-Whole.is)
 
 pub returns-in_default : goal.returns-in_default
-unfolding first_record widths_of numbers_at
+unfolding first_record
 returns-in_default c =
     rw (
       c.head_fault.ensures,
@@ -26,22 +26,18 @@ returns-in_default c =
     )
 
 pub byte-n-requires : goal.byte-n-requires
-unfolding first_record widths_of numbers_at
 byte-n-requires c =
     omega (arith, there (goal.at.byte-n-requires c).In-Whole)
 
 pub get-longest-requires : goal.get-longest-requires
-unfolding first_record widths_of numbers_at
 get-longest-requires c =
     let l = there (goal.at.get-longest-requires c).In-Whole in (omega arith, omega arith)
 
 pub get-spread-requires : goal.get-spread-requires
-unfolding first_record widths_of numbers_at
 get-spread-requires c =
     let l = there (goal.at.get-spread-requires c).In-Whole in (omega arith, omega arith)
 
 pub get-clock-requires : goal.get-clock-requires
-unfolding first_record widths_of numbers_at
 get-clock-requires c =
     let l = there (goal.at.get-clock-requires c).In-Whole in (omega arith, omega arith)
 

@@ -46,13 +46,13 @@ not-long c = rw (← c.get-told.ensures.0) (le-leb _ _ c.if-len-told.false)
 -- ---- the answers
 
 pub returns-then-run-at : goal.returns-then-run-at
-unfolding head_of record_fault fault_offset first_of all_of tests_in fails_at offset_in
+unfolding head_of record_fault fault_offset first_of all_of tests_in fails_at
 returns-then-run-at c =
     let a = c.args in
     let none : length a.run.now - a.at ≡ 0 = omega arith in rw none
 
 pub returns-then-left-lt-FORE_LENGTH : goal.returns-then-left-lt-FORE_LENGTH
-unfolding head_of record_fault fault_offset first_of all_of tests_in fails_at offset_in
+unfolding head_of record_fault fault_offset first_of all_of tests_in fails_at
 returns-then-left-lt-FORE_LENGTH c =
     rw (lt-leb _ _ c.if-left-lt-FORE_LENGTH.true)
 
@@ -90,7 +90,7 @@ returns-then-len-told c =
     )
 
 pub returns-then-left-len : goal.returns-then-left-len
-unfolding head_of record_fault fault_offset first_of all_of tests_in fails_at offset_in
+unfolding head_of record_fault fault_offset first_of all_of tests_in fails_at
 returns-then-left-len c =
     rw (
       fore (goal.at.returns-then-left-len c).Else-left-lt-FORE_LENGTH,
@@ -102,7 +102,7 @@ returns-then-left-len c =
     )
 
 pub returns : goal.returns
-unfolding head_of record_fault fault_offset first_of all_of tests_in fails_at offset_in
+unfolding head_of record_fault first_of all_of
 returns c =
     rw (
       fore (goal.at.returns c).Else-left-lt-FORE_LENGTH,

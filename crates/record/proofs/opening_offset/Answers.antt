@@ -26,12 +26,12 @@ unfolding last_longest
 t_fits c = longest_fits c.args.s.longest c.if-s.false
 
 pub returns-then-not-cell_fits : goal.returns-then-not-cell_fits
-unfolding opening_offset tests_in fails_at field_offset widths_of total last_longest last_tick
+unfolding opening_offset tests_in fails_at field_offset total
 returns-then-not-cell_fits c =
     rw (told c.cell_fits.ensures c.if-not-cell_fits.true)
 
 pub returns-then-s : goal.returns-then-s
-unfolding opening_offset tests_in fails_at field_offset widths_of total last_longest last_tick
+unfolding opening_offset tests_in fails_at field_offset widths_of total last_longest
 returns-then-s c =
     rw (
       n_fits (goal.at.returns-then-s c).Else-not-cell_fits,
@@ -39,7 +39,7 @@ returns-then-s c =
     )
 
 pub returns-then-s-2 : goal.returns-then-s-2
-unfolding opening_offset tests_in fails_at field_offset widths_of total last_longest last_tick
+unfolding opening_offset tests_in fails_at field_offset widths_of total
 returns-then-s-2 c =
     let t = t_fits (goal.at.returns-then-s-2 c).Else-s in
     rw (
@@ -50,7 +50,7 @@ returns-then-s-2 c =
     )
 
 pub returns-then-clock-gt-LAST_TICK : goal.returns-then-clock-gt-LAST_TICK
-unfolding opening_offset tests_in fails_at field_offset widths_of total last_longest last_tick
+unfolding opening_offset tests_in fails_at field_offset widths_of total last_tick
 returns-then-clock-gt-LAST_TICK c =
     let t = t_fits (goal.at.returns-then-clock-gt-LAST_TICK c).Else-s in
     rw (
@@ -62,7 +62,7 @@ returns-then-clock-gt-LAST_TICK c =
     )
 
 pub returns : goal.returns
-unfolding opening_offset tests_in fails_at field_offset widths_of total last_longest last_tick
+unfolding opening_offset tests_in fails_at last_tick
 returns c =
     let t = t_fits (goal.at.returns c).Else-s in
     rw (
