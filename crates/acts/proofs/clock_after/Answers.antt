@@ -5,7 +5,6 @@ use mathlib.Core.Bool.{true}
 use native.Mathlib.Omega.{arith}
 use lib.Dec.{leb}
 use borrow.Author.Tests.{le-leb, lt-leb}
-use borrow.Author.Rules.{rules}
 use Rattle.message.specs.Message.{last_tick}
 use Rattle.acts.specs.Parts.{ticks_of, clock_after}
 use Rattle.acts.proofs.clock_after.Goals as goal
@@ -53,47 +52,29 @@ returns-in-AdvanceOne c =
 pub returns-in-Start : goal.returns-in-Start
 unfolding clock_after
 returns-in-Start c =
-    rw (
-      few (goal.at.returns-in-Start c).Else-d-gt-LAST_TICK,
-      c.in-Start.is,
-    )
+    rw (few (goal.at.returns-in-Start c).Else-d-gt-LAST_TICK, c.in-Start.is)
 
 pub returns-in-Deliver : goal.returns-in-Deliver
 unfolding clock_after
 returns-in-Deliver c =
-    rw (
-      few (goal.at.returns-in-Deliver c).Else-d-gt-LAST_TICK,
-      c.in-Deliver.is,
-    )
+    rw (few (goal.at.returns-in-Deliver c).Else-d-gt-LAST_TICK, c.in-Deliver.is)
 
 pub returns-in-Lose : goal.returns-in-Lose
 unfolding clock_after
 returns-in-Lose c =
-    rw (
-      few (goal.at.returns-in-Lose c).Else-d-gt-LAST_TICK,
-      c.in-Lose.is,
-    )
+    rw (few (goal.at.returns-in-Lose c).Else-d-gt-LAST_TICK, c.in-Lose.is)
 
 pub returns-in-Repeat : goal.returns-in-Repeat
 unfolding clock_after
 returns-in-Repeat c =
-    rw (
-      few (goal.at.returns-in-Repeat c).Else-d-gt-LAST_TICK,
-      c.in-Repeat.is,
-    )
+    rw (few (goal.at.returns-in-Repeat c).Else-d-gt-LAST_TICK, c.in-Repeat.is)
 
 pub returns-in-Restart : goal.returns-in-Restart
 unfolding clock_after
 returns-in-Restart c =
-    rw (
-      few (goal.at.returns-in-Restart c).Else-d-gt-LAST_TICK,
-      c.in-Restart.is,
-    )
+    rw (few (goal.at.returns-in-Restart c).Else-d-gt-LAST_TICK, c.in-Restart.is)
 
 pub returns-in-Release : goal.returns-in-Release
 unfolding clock_after
 returns-in-Release c =
-    rw (
-      few (goal.at.returns-in-Release c).Else-d-gt-LAST_TICK,
-      c.in-Release.is,
-    )
+    rw (few (goal.at.returns-in-Release c).Else-d-gt-LAST_TICK, c.in-Release.is)

@@ -7,7 +7,6 @@ use borrow.Author.Tests.{ne_eqb}
 use Rattle.wire.specs.Wire.{total, numbers_at}
 use Rattle.record.specs.Record.{widths_of, record_length, event_with}
 use Rattle.record.proofs.Laws.{length_least, after_host, first_value}
-use borrow.Author.Rules.{rules}
 use Rattle.record.proofs.event_at.Goals as goal
 use Rattle.record.proofs.event_at.Goals.{Start}
 

@@ -7,7 +7,6 @@ use Rattle.base.proofs.Tests.{told}
 use Rattle.wire.specs.Wire.{numbers_at}
 use Rattle.record.specs.Record.{widths_of, first_record}
 use Rattle.record.proofs.Laws.{first_whole}
-use borrow.Author.Rules.{rules}
 use Rattle.record.proofs.first_record.Goals as goal
 use Rattle.record.proofs.first_record.Goals.{In-Whole}
 

@@ -12,7 +12,6 @@ use Rattle.base.proofs.Tests.{told}
 use Rattle.layout.specs.Layout.{offset_in}
 use Rattle.record.specs.Record.{is_allowed, record_length, left_at, told_length_at, told_kind_at}
 use Rattle.record.specs.Record.{record_fault, fault_offset, head_of}
-use borrow.Author.Rules.{rules}
 use Rattle.record.proofs.head_at.Goals as goal
 use Rattle.record.proofs.head_at.Goals.{Else-left-lt-FORE_LENGTH, Else-not-is_allowed}
 use Rattle.record.proofs.head_at.Goals.{After-record_length-len, Else-told-len, Else-len-told}
