@@ -1,6 +1,5 @@
 -- `first_record` is `first_record`: the head's fault, or the settings, whose 21 bytes are there if
 -- the head is whole.
--- the record's bytes are there
 use native.Mathlib.Omega.{arith}
 use Prim.Native.Nat.{◌≤◌}
 use lib.ListN.{length}
@@ -8,36 +7,15 @@ use Rattle.base.proofs.Tests.{told}
 use Rattle.wire.specs.Wire.{numbers_at}
 use Rattle.record.specs.Record.{widths_of, first_record}
 use Rattle.record.proofs.Laws.{first_whole}
-use borrow.Author.Rules.{rules}
 use Rattle.record.proofs.first_record.Goals as goal
+use Rattle.record.proofs.first_record.Goals.{In-Whole}
 
-pub head_at-head-requires : goal.head_at-head-requires
-unfolding first_record widths_of numbers_at
-head_at-head-requires c =
-    search rules
-
-pub enum_told-1 : goal.enum_told-1
-unfolding first_record widths_of numbers_at
-enum_told-1 c =
-    search rules
-
-pub enum_told-in_default : goal.enum_told-in_default
-unfolding first_record widths_of numbers_at
-enum_told-in_default c =
-    search rules
-
-pub head_fault-requires : goal.head_fault-requires
-unfolding first_record widths_of numbers_at
-head_fault-requires c =
-    search rules
-
-pub head_offset-requires : goal.head_offset-requires
-unfolding first_record widths_of numbers_at
-head_offset-requires c =
-    search rules
+-- the record's bytes are there
+there : (c : In-Whole) → 21 ≤ length c.args.run.now
+there c = first_whole _ _ _ (told c.head_at-head.ensures c.in-Whole.is)
 
 pub returns-in_default : goal.returns-in_default
-unfolding first_record widths_of numbers_at
+unfolding first_record
 returns-in_default c =
     rw (
       c.head_fault.ensures,
@@ -47,50 +25,20 @@ returns-in_default c =
     )
 
 pub byte-n-requires : goal.byte-n-requires
-unfolding first_record widths_of numbers_at
 byte-n-requires c =
-    omega (
-      arith,
-      (let x : 21 ≤ length c.args.run.now =
-          first_whole _ _ _ (told c.head_at-head.ensures c.in-Whole.is) in x),
-    )
+    omega (arith, there (goal.at.byte-n-requires c).In-Whole)
 
 pub get-longest-requires : goal.get-longest-requires
-unfolding first_record widths_of numbers_at
 get-longest-requires c =
-    let l = (let x : 21 ≤ length c.args.run.now =
-    first_whole _ _ _ (told c.head_at-head.ensures c.in-Whole.is) in x) in (
-      omega arith,
-      omega arith,
-    )
-
-pub overflow_cast-longest : goal.overflow_cast-longest
-unfolding first_record widths_of numbers_at
-overflow_cast-longest c =
-    search rules
+    let l = there (goal.at.get-longest-requires c).In-Whole in (omega arith, omega arith)
 
 pub get-spread-requires : goal.get-spread-requires
-unfolding first_record widths_of numbers_at
 get-spread-requires c =
-    let l = (let x : 21 ≤ length c.args.run.now =
-    first_whole _ _ _ (told c.head_at-head.ensures c.in-Whole.is) in x) in (
-      omega arith,
-      omega arith,
-    )
-
-pub overflow_cast-spread : goal.overflow_cast-spread
-unfolding first_record widths_of numbers_at
-overflow_cast-spread c =
-    search rules
+    let l = there (goal.at.get-spread-requires c).In-Whole in (omega arith, omega arith)
 
 pub get-clock-requires : goal.get-clock-requires
-unfolding first_record widths_of numbers_at
 get-clock-requires c =
-    let l = (let x : 21 ≤ length c.args.run.now =
-    first_whole _ _ _ (told c.head_at-head.ensures c.in-Whole.is) in x) in (
-      omega arith,
-      omega arith,
-    )
+    let l = there (goal.at.get-clock-requires c).In-Whole in (omega arith, omega arith)
 
 pub returns : goal.returns
 unfolding first_record widths_of numbers_at

@@ -1,5 +1,4 @@
 -- `head_at` is `head_of`: each refusal in its order, and the head where all are passed.
--- from each test that is passed to the one before it
 use mathlib.Core.Path.{◌≡◌, sym, ap, ◌∙◌}
 use mathlib.Core.Bool.{true}
 use Prim.Native.Nat.{◌-◌}
@@ -13,93 +12,66 @@ use Rattle.base.proofs.Tests.{told}
 use Rattle.layout.specs.Layout.{offset_in}
 use Rattle.record.specs.Record.{is_allowed, record_length, left_at, told_length_at, told_kind_at}
 use Rattle.record.specs.Record.{record_fault, fault_offset, head_of}
-use borrow.Author.Rules.{rules}
 use Rattle.record.proofs.head_at.Goals as goal
-use Rattle.record.proofs.head_at.Goals.{Else-left-len}
+use Rattle.record.proofs.head_at.Goals.{Else-left-lt-FORE_LENGTH, Else-not-is_allowed}
+use Rattle.record.proofs.head_at.Goals.{After-record_length-len, Else-told-len, Else-len-told}
+
+-- ---- what each test that is passed tells
+
+-- four bytes are left
+fore : (c : Else-left-lt-FORE_LENGTH) → let a = c.args in leb 4 (left_at a.run.now a.at) ≡ true
+fore c = le-leb _ _ c.if-left-lt-FORE_LENGTH.false
+
+-- the told kind is allowed there
+known : (c : Else-not-is_allowed) → let a = c.args in
+    is_allowed a.first (told_kind_at a.run.now a.at) ≡ true
+known c = rw (← c.get-kind.ensures.0) (told c.is_allowed.ensures c.if-not-is_allowed.false)
+
+-- and has the length that was found
+long : (c : After-record_length-len) → let a = c.args in
+    record_length (told_kind_at a.run.now a.at) ≡ c.record_length-len.result
+long c = sym (c.record_length-len.ensures ∙ ap record_length c.get-kind.ensures.0)
 
 -- the told length is not below the kind's
-not-short : (c : Else-left-len) → let a = c.args in
+not-short : (c : Else-told-len) → let a = c.args in
     leb c.record_length-len.result (told_length_at a.run.now a.at) ≡ true
 not-short c = rw (← c.get-told.ensures.0) (le-leb _ _ c.if-told-len.false)
 
+-- and not above it
+not-long : (c : Else-len-told) → let a = c.args in
+    leb (told_length_at a.run.now a.at) c.record_length-len.result ≡ true
+not-long c = rw (← c.get-told.ensures.0) (le-leb _ _ c.if-len-told.false)
+
+-- ---- the answers
+
 pub returns-then-run-at : goal.returns-then-run-at
-unfolding head_of record_fault fault_offset first_of all_of tests_in fails_at offset_in
+unfolding head_of record_fault fault_offset first_of all_of tests_in fails_at
 returns-then-run-at c =
     let a = c.args in
     let none : length a.run.now - a.at ≡ 0 = omega arith in rw none
 
-pub overflow_sub-left : goal.overflow_sub-left
-unfolding head_of record_fault fault_offset first_of all_of tests_in fails_at offset_in
-overflow_sub-left c =
-    search rules
-
 pub returns-then-left-lt-FORE_LENGTH : goal.returns-then-left-lt-FORE_LENGTH
-unfolding head_of record_fault fault_offset first_of all_of tests_in fails_at offset_in
+unfolding head_of record_fault fault_offset first_of all_of tests_in fails_at
 returns-then-left-lt-FORE_LENGTH c =
     rw (lt-leb _ _ c.if-left-lt-FORE_LENGTH.true)
-
-pub overflow_add-at : goal.overflow_add-at
-unfolding head_of record_fault fault_offset first_of all_of tests_in fails_at offset_in
-overflow_add-at c =
-    search rules
-
-pub get-kind-requires : goal.get-kind-requires
-unfolding head_of record_fault fault_offset first_of all_of tests_in fails_at offset_in
-get-kind-requires c =
-    search rules
-
-pub overflow_cast-kind : goal.overflow_cast-kind
-unfolding head_of record_fault fault_offset first_of all_of tests_in fails_at offset_in
-overflow_cast-kind c =
-    search rules
-
-pub is_allowed-requires : goal.is_allowed-requires
-unfolding head_of record_fault fault_offset first_of all_of tests_in fails_at offset_in
-is_allowed-requires c =
-    search rules
 
 pub returns-then-not-is_allowed : goal.returns-then-not-is_allowed
 unfolding head_of record_fault fault_offset first_of all_of tests_in fails_at offset_in
 returns-then-not-is_allowed c =
-    let k = c.is_allowed in
     rw (
-      (let x : let a = c.args in leb 4 (left_at a.run.now a.at) ≡ true =
-          le-leb _ _ c.if-left-lt-FORE_LENGTH.false in x),
+      fore (goal.at.returns-then-not-is_allowed c).Else-left-lt-FORE_LENGTH,
       ← c.get-kind.ensures.0,
-      ← k.ensures,
+      ← c.is_allowed.ensures,
       c.if-not-is_allowed.true,
     )
-
-pub record_length-len-requires : goal.record_length-len-requires
-unfolding head_of record_fault fault_offset first_of all_of tests_in fails_at offset_in
-record_length-len-requires c =
-    search rules
-
-pub overflow_add-at-2 : goal.overflow_add-at-2
-unfolding head_of record_fault fault_offset first_of all_of tests_in fails_at offset_in
-overflow_add-at-2 c =
-    search rules
-
-pub get-told-requires : goal.get-told-requires
-unfolding head_of record_fault fault_offset first_of all_of tests_in fails_at offset_in
-get-told-requires c =
-    search rules
 
 pub returns-then-told-len : goal.returns-then-told-len
 unfolding head_of record_fault fault_offset first_of all_of tests_in fails_at offset_in
 returns-then-told-len c =
-    let k = c.before.before in
     rw (
-      (let x : let a = c.args in leb 4 (left_at a.run.now a.at) ≡ true =
-          le-leb _ _ c.if-left-lt-FORE_LENGTH.false in x),
-      (let x : let a = c.args in
-          is_allowed a.first (told_kind_at a.run.now a.at) ≡ true = let k = c.is_allowed in
-          let e = told k.ensures (c.if-not-is_allowed.false) in
-          rw (← c.get-kind.ensures.0) e in x),
-      (let x : let a = c.args in
-          record_length (told_kind_at a.run.now a.at) ≡ c.record_length-len.result =
-          let k = c.get-kind in
-          sym (c.record_length-len.ensures ∙ ap record_length k.ensures.0) in x),
+      fore (goal.at.returns-then-told-len c).Else-left-lt-FORE_LENGTH,
+      known (goal.at.returns-then-told-len c).Else-not-is_allowed,
+      long (goal.at.returns-then-told-len c).After-record_length-len,
       ← c.get-told.ensures.0,
       lt-leb _ _ c.if-told-len.true,
     )
@@ -107,72 +79,36 @@ returns-then-told-len c =
 pub returns-then-len-told : goal.returns-then-len-told
 unfolding head_of record_fault fault_offset first_of all_of tests_in fails_at offset_in
 returns-then-len-told c =
-    let k = c.before.before.before in
     rw (
-      (let x : let a = c.args in leb 4 (left_at a.run.now a.at) ≡ true =
-          le-leb _ _ c.if-left-lt-FORE_LENGTH.false in x),
-      (let x : let a = c.args in
-          is_allowed a.first (told_kind_at a.run.now a.at) ≡ true = let k = c.is_allowed in
-          let e = told k.ensures (c.if-not-is_allowed.false) in
-          rw (← c.get-kind.ensures.0) e in x),
-      (let x : let a = c.args in
-          record_length (told_kind_at a.run.now a.at) ≡ c.record_length-len.result =
-          let k = c.get-kind in
-          sym (c.record_length-len.ensures ∙ ap record_length k.ensures.0) in x),
-      (let x : let a = c.args in
-          leb c.record_length-len.result (told_length_at a.run.now a.at) ≡ true =
-          rw (← c.get-told.ensures.0) (le-leb _ _ c.if-told-len.false) in x),
+      fore (goal.at.returns-then-len-told c).Else-left-lt-FORE_LENGTH,
+      known (goal.at.returns-then-len-told c).Else-not-is_allowed,
+      long (goal.at.returns-then-len-told c).After-record_length-len,
+      not-short (goal.at.returns-then-len-told c).Else-told-len,
       ← c.get-told.ensures.0,
       lt-leb _ _ c.if-len-told.true,
     )
 
 pub returns-then-left-len : goal.returns-then-left-len
-unfolding head_of record_fault fault_offset first_of all_of tests_in fails_at offset_in
+unfolding head_of record_fault fault_offset first_of all_of tests_in fails_at
 returns-then-left-len c =
-    let k = c.before.before.before.before in
     rw (
-      (let x : let a = c.args in leb 4 (left_at a.run.now a.at) ≡ true =
-          le-leb _ _ c.if-left-lt-FORE_LENGTH.false in x),
-      (let x : let a = c.args in
-          is_allowed a.first (told_kind_at a.run.now a.at) ≡ true = let k = c.is_allowed in
-          let e = told k.ensures (c.if-not-is_allowed.false) in
-          rw (← c.get-kind.ensures.0) e in x),
-      (let x : let a = c.args in
-          record_length (told_kind_at a.run.now a.at) ≡ c.record_length-len.result =
-          let k = c.get-kind in
-          sym (c.record_length-len.ensures ∙ ap record_length k.ensures.0) in x),
-      (let x : let a = c.args in
-          leb c.record_length-len.result (told_length_at a.run.now a.at) ≡ true =
-          rw (← c.get-told.ensures.0) (le-leb _ _ c.if-told-len.false) in x),
-      (let x : let a = c.args in
-          leb (told_length_at a.run.now a.at) c.record_length-len.result ≡ true =
-          rw (← c.get-told.ensures.0) (le-leb _ _ c.if-len-told.false) in x),
+      fore (goal.at.returns-then-left-len c).Else-left-lt-FORE_LENGTH,
+      known (goal.at.returns-then-left-len c).Else-not-is_allowed,
+      long (goal.at.returns-then-left-len c).After-record_length-len,
+      not-short (goal.at.returns-then-left-len c).Else-told-len,
+      not-long (goal.at.returns-then-left-len c).Else-len-told,
       lt-leb _ _ c.if-left-len.true,
     )
 
-pub overflow_add-result : goal.overflow_add-result
-unfolding head_of record_fault fault_offset first_of all_of tests_in fails_at offset_in
-overflow_add-result c =
-    search rules
-
 pub returns : goal.returns
-unfolding head_of record_fault fault_offset first_of all_of tests_in fails_at offset_in
+unfolding head_of record_fault first_of all_of
 returns c =
     rw (
-      (let x : let a = c.args in leb 4 (left_at a.run.now a.at) ≡ true =
-          le-leb _ _ c.if-left-lt-FORE_LENGTH.false in x),
-      (let x : let a = c.args in
-          is_allowed a.first (told_kind_at a.run.now a.at) ≡ true = let k = c.is_allowed in
-          let e = told k.ensures (c.if-not-is_allowed.false) in
-          rw (← c.get-kind.ensures.0) e in x),
-      (let x : let a = c.args in
-          record_length (told_kind_at a.run.now a.at) ≡ c.record_length-len.result =
-          let k = c.get-kind in
-          sym (c.record_length-len.ensures ∙ ap record_length k.ensures.0) in x),
-      not-short c,
-      (let x : let a = c.args in
-          leb (told_length_at a.run.now a.at) c.record_length-len.result ≡ true =
-          rw (← c.get-told.ensures.0) (le-leb _ _ c.if-len-told.false) in x),
+      fore (goal.at.returns c).Else-left-lt-FORE_LENGTH,
+      known (goal.at.returns c).Else-not-is_allowed,
+      long (goal.at.returns c).After-record_length-len,
+      not-short (goal.at.returns c).Else-told-len,
+      not-long (goal.at.returns c).Else-len-told,
       le-leb _ _ c.if-left-len.false,
       ← c.get-kind.ensures.0,
     )
