@@ -1,22 +1,21 @@
 -- What a propose request leaves at a host that may accept it, once its delivery is done: the lease.
 -- Assumes nothing.
+use Rattle.std.specs.Prelude.{Some}
 use mathlib.Core.Path.{◌≡◌, sym, ap, ◌∙◌}
 use mathlib.Core.Bool.{true, false}
 use Prim.Native.Nat.{ℕ}
 use native.Mathlib.Omega.{arith}
 use Rattle.base.specs.Refusals.{done}
 use Rattle.message.specs.declared.Message.{Message}
-use Rattle.message.specs.declared.Proposal.{Proposal}
+use Rattle.message.specs.Leases.{Proposal}
 use Rattle.message.specs.declared.Message.TheVariants.{ProposeRequest}
 use Rattle.message.specs.Message.{numbers_of, target_of}
 use Rattle.message.proofs.Laws.{target_in_lem}
-use Rattle.rules.specs.declared.Accepted.{Accepted}
 use Rattle.rules.specs.Rules.{is_waiting, may_accept, after_accept}
 use Rattle.state.specs.declared.Settings.{Settings}
 use Rattle.state.specs.StateLimits.{sizes_of}
 use Rattle.host.specs.declared.Host.{Host}
 use Rattle.host.specs.Steps.{lease_of, on_propose_request, on_message, on_delivery}
-use Rattle.slots.specs.declared.Content.{Content}
 use Rattle.slots.proofs.Laws.{Sendable, holds_at}
 use Rattle.cell.specs.declared.Cell.{Cell}
 use Rattle.cell.specs.declared.Event.{Event}
@@ -32,7 +31,7 @@ use Rattle.cell.proofs.Events.{answer_is}
 -- the rule of one host
 stores : (s : Settings) (h : Host) (p : Proposal) → is_waiting h.clock h.wait ≡ false
     → may_accept h.state.promised h.clock (lease_of p) ≡ true
-    → (on_delivery s h (ProposeRequest p)).host.state.accepted ≡ Accepted.One (lease_of p)
+    → (on_delivery s h (ProposeRequest p)).host.state.accepted ≡ Some (lease_of p)
 unfolding on_delivery on_message on_propose_request after_accept
 stores s h p awake may = rw (awake, may)
 
@@ -45,7 +44,7 @@ done_after c e a =
     (sym (answer_is c e) ∙ a)
 
 -- a delivery leaves its target's step
-at_target : (c : Cell) (i : ℕ) (m : Message) → Sound c → content_at c i ≡ Content.One m
+at_target : (c : Cell) (i : ℕ) (m : Message) → Sound c → content_at c i ≡ Some m
     → host_at (after_of c (Deliver i)) (target_of m) ≡ (deliver_step c m).host
 unfolding after_of delivered stepped
 at_target c i m o e =
@@ -57,10 +56,10 @@ at_target c i m o e =
 
 -- so a propose request that its target may accept is stored there
 pub stored : (c : Cell) (i x : ℕ) (p : Proposal) → Sound c → (event_of c (Deliver i)).answer ≡ done
-    → content_at c i ≡ Content.One (ProposeRequest p) → p.head.target ≡ x
+    → content_at c i ≡ Some (ProposeRequest p) → p.head.target ≡ x
     → is_waiting (host_at c x).clock (host_at c x).wait ≡ false
     → may_accept (host_at c x).state.promised (host_at c x).clock (lease_of p) ≡ true
-    → (host_at (cell_of (event_of c (Deliver i))) x).state.accepted ≡ Accepted.One (lease_of p)
+    → (host_at (cell_of (event_of c (Deliver i))) x).state.accepted ≡ Some (lease_of p)
 unfolding numbers_of
 stored c i x p o a e t awake may =
     ap (λ (d : Cell). (host_at d x).state.accepted) (done_after c (Deliver i) a)

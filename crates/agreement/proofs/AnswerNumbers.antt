@@ -1,5 +1,6 @@
 -- The answer of an event is 0 or a number of its own order, and never 1 where the cell is within
 -- its limits. Assumes nothing.
+use Rattle.std.specs.Prelude.{Option, Some, None}
 use mathlib.Core.Path.{◌≡◌, refl}
 use mathlib.Core.Bool.{true, false, not, ◌&&◌}
 use mathlib.Core.List.{List, [], ◌∷◌, Memᴰ}
@@ -11,16 +12,16 @@ use Rattle.base.specs.Refusals.{refused_same_tick, refused_duration, refused_slo
 use Rattle.base.specs.Refusals.{refused_spread, refused_clock, refused_not_holder}
 use Rattle.base.specs.Lists.{All}
 use Rattle.base.proofs.Tests.{first_of_lem, unless_of, none_of_lem, last_of, held, next}
+use Rattle.message.specs.declared.Message.{Message}
 use Rattle.message.specs.Message.{last_tick}
 use Rattle.rules.specs.Rules.{is_waiting, is_fresh, names_itself}
 use Rattle.state.specs.declared.Settings.{Settings}
 use Rattle.state.specs.StateLimits.{duration_ok}
 use Rattle.host.specs.declared.Host.{Host}
-use Rattle.host.specs.declared.Stepped.{Stepped}
+use Rattle.host.specs.Stepped.{Stepped}
 use Rattle.host.specs.Steps.{host_ok, advance_refusal, restart_refusal, start_refusal}
 use Rattle.host.specs.Steps.{release_refusal}
 use Rattle.slots.specs.declared.Slot.{Slot}
-use Rattle.slots.specs.declared.Content.{Content}
 use Rattle.slots.specs.Slots.{slot_count, is_empty, slot_refusal, empties, freed}
 use Rattle.cell.specs.declared.Cell.{Cell}
 use Rattle.cell.specs.declared.Event.{Event}
@@ -30,9 +31,8 @@ use Rattle.cell.specs.CellLimits.{host_at, content_at, clocks_near, cell_ok}
 use Rattle.cell.specs.Events.{messages_in, step_full, advance_all_refusal, advanced_one}
 use Rattle.cell.specs.Events.{advance_one_refusal, step_at_refusal, start_step, start_at_refusal}
 use Rattle.cell.specs.Events.{deliver_step, deliver_full, deliver_refusal, lose_refusal}
-use Rattle.cell.specs.Events.{repeat_refusal}
-use Rattle.cell.specs.Events.{restart_at_refusal, release_step, release_at_refusal, refusal_of}
-use Rattle.cell.specs.Events.{event_of}
+use Rattle.cell.specs.Events.{repeat_refusal, restart_at_refusal, release_step, release_at_refusal}
+use Rattle.cell.specs.Events.{refusal_of, event_of}
 use Rattle.cell.specs.Claims.{Sized}
 use Rattle.cell.proofs.Hosts.{by_advances}
 use Rattle.cell.proofs.CellLimits.{cell_in}
@@ -83,11 +83,11 @@ step_full_lem : (P : ℕ → Type 0) (ss : List Slot) (step : Stepped) → P don
 step_full_lem P ss step z p =
     unless_of P (leb (messages_in step.sent step.receivers) (empties ss)) refused_full z p
 
-deliver_full_lem : (P : ℕ → Type 0) (c : Cell) (i : ℕ) (t : Content) → P done → P refused_full
-    → P (deliver_full c i t)
+deliver_full_lem : (P : ℕ → Type 0) (c : Cell) (i : ℕ) (t : Option Message) → P done
+    → P refused_full → P (deliver_full c i t)
 unfolding deliver_full
-deliver_full_lem P c i Content.Empty z p = z
-deliver_full_lem P c i (Content.One m) z p =
+deliver_full_lem P c i None z p = z
+deliver_full_lem P c i (Some m) z p =
     step_full_lem P (freed c.slots i) (deliver_step c m) z p
 
 -- 5, and then what is told of a host of the cell

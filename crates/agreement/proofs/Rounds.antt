@@ -14,11 +14,10 @@ use Rattle.state.specs.declared.Settings.{Settings}
 use Rattle.state.specs.Ageing.{aged_at}
 use Rattle.state.proofs.StateLimits.{settings_in}
 use Rattle.host.specs.declared.Host.{Host}
-use Rattle.host.specs.declared.Stepped.{Stepped}
+use Rattle.host.specs.Stepped.{Stepped}
 use Rattle.host.specs.Steps.{advanced_host, restarted_host, on_start, on_release}
-use Rattle.host.proofs.Outcomes.{Cause, step_on, Outcome, outcome, nothing, begun, released}
-use Rattle.host.proofs.Outcomes.{promised, heard, proposed, gave_up, accepted, counted_vote, named}
-use Rattle.host.proofs.Outcomes.{named_alone, told, freed}
+use Rattle.host.proofs.Outcomes.{Cause, step_on, Outcome, outcome, begun, released, heard, proposed}
+use Rattle.host.proofs.Outcomes.{gave_up, counted_vote, named, named_alone}
 use Rattle.places.specs.Places.{new_host}
 use Rattle.places.specs.Parts.{Opens}
 use Rattle.cell.specs.declared.Cell.{Cell}
@@ -46,19 +45,15 @@ counted_short n before after p e = sym (acts_first n before after p) ∙ e
 short_by : (s : Settings) (h : Host) {t : Stepped} → Outcome s h (λ _. Unit {0}) t → Short s.n h
     → Short s.n t.host
 unfolding replied_in on_start on_release
-short_by s h nothing p = p
 short_by s h (begun d _) p = nobody_short s.n
 short_by s h (released _) p = nobody_short s.n
-short_by s h (promised m _ _ _) p = p
 short_by s h (heard a d r x e) p = counted_short s.n _ _ (rw x.round at p) e
 short_by s h (proposed a d r _ _) p = nobody_short s.n
 short_by s h gave_up p = nobody_short s.n
-short_by s h (accepted m _ _ _) p = p
 short_by s h (counted_vote v d x e) p = counted_short s.n _ _ (rw x.round at p) e
 short_by s h (named v d _) p = nobody_short s.n
 short_by s h (named_alone v d _) p = nobody_short s.n
-short_by s h (told m _ _) p = p
-short_by s h (freed m _ _ _) p = p
+short_by s h others p = p
 
 short_step : (s : Settings) (h : Host) (c : Cause) → Short s.n h
     → Short s.n (step_on s h c).host

@@ -1,14 +1,15 @@
 -- Laws of lists: what holds of each element, one element replaced, a list from a place on, and a
--- walk that tests each element. Assumes nothing.
+-- test of each element. Assumes nothing.
 use mathlib.Core.Path.{◌≡◌, refl, sym, ap, ◌∙◌}
-use mathlib.Core.Bool.{Bool, true, false}
+use mathlib.Core.Bool.{Bool, true}
 use mathlib.Core.List.{List, [], ◌∷◌, map}
-use Prim.Native.Nat.{ℕ, zero, suc, ◌+◌, ◌≤◌, ◌<◌}
+use Prim.Native.Nat.{ℕ, zero, suc, ◌+◌, ◌<◌}
 use native.Mathlib.Nat.{add-zero, not-suc-le-zero, le_of_suc-le-suc}
 use native.Mathlib.Numerals.{add-one}
 use native.Mathlib.Omega.{arith}
-use lib.ListN.{length, get_or, set, drop, replicate, length-map, drop_of_length-le}
+use lib.ListN.{length, get_or, set, drop, replicate, length-map}
 use lib.Seq.{drop-cons}
+use Rattle.std.specs.List.{list_all, enumerate_from}
 use Rattle.base.specs.Lists.{All, every, all_of}
 use Rattle.base.proofs.Tests.{both, and_true}
 
@@ -49,15 +50,6 @@ by_place P (y ∷ xs) zero x (suc k) d p q = q
 by_place P (y ∷ xs) (suc h) x zero d p q = q
 by_place P (y ∷ xs) (suc h) x (suc k) d p q = by_place P xs h x k d (λ e. p (ap suc e)) q
 
--- two stores at different places, in either order
-pub set_set : {A : Type 0} (xs : List A) (i j : ℕ) (a b : A) → (i ≡ j → ⊥)
-    → set (set xs i a) j b ≡ set (set xs j b) i a
-set_set [] i j a b d = refl
-set_set (x ∷ xs) zero zero a b d = absurd (d refl)
-set_set (x ∷ xs) zero (suc j) a b d = refl
-set_set (x ∷ xs) (suc i) zero a b d = refl
-set_set (x ∷ xs) (suc i) (suc j) a b d = ap (λ ys. x ∷ ys) (set_set xs i j a b (λ e. d (ap suc e)))
-
 -- ---- from a place on
 
 -- the elements from i on are element i and the rest
@@ -71,37 +63,7 @@ pub length_mapped : {A B : Type 0} (f : A → B) (l : List A) (n : ℕ) → leng
     → length l ≡ n
 length_mapped f l n e = sym (length-map l f) ∙ e
 
--- ---- a walk that tests each element: where it stands before place i, its next turn, a turn that
--- fails, and its end
-
-pub record Walked {A : Type 0} (f : ℕ → A → Bool) (n : ℕ) (xs : List A) (i : ℕ) : Type 0 where
-  pub long : length xs ≡ n
-  pub rest : every f 0 xs ≡ every f i (drop i xs)
-
-pub walked_first : {A : Type 0} (f : ℕ → A → Bool) (n : ℕ) (xs : List A) → length xs ≡ n
-    → Walked f n xs 0
-walked_first f n xs e = record { long = e; rest = refl }
-
-module _ {A : Type 0} {f : ℕ → A → Bool} {n : ℕ} {xs : List A} {i : ℕ} (w : Walked f n xs i) where
-  module _ (d : A) (h : i < n) where
-    split : every f 0 xs ≡ every f i (get_or xs i d ∷ drop (i + 1) xs)
-    split = w.rest ∙ ap (every f i) (from_place xs i d (omega (arith, h, w.long)))
-
-    pub walked_next : f i (get_or xs i d) ≡ true → Walked f n xs (i + 1)
-    unfolding every
-    walked_next e = record { long = w.long; rest = split ∙ rw (e, add-one i) }
-
-    pub walked_fault : f i (get_or xs i d) ≡ false → every f 0 xs ≡ false
-    unfolding every
-    walked_fault e = split ∙ rw e
-
-  pub walked_end : n ≤ i → every f 0 xs ≡ true
-  unfolding every
-  walked_end h =
-      let b : length xs ≤ i = omega (arith, h, w.long) in
-      w.rest ∙ ap (every f i) (drop_of_length-le xs b)
-
--- what such a walk tells of each place, and from each
+-- ---- a test of each element: what it tells of each place, and from each
 
 pub every_in : {A : Type 0} (f : ℕ → A → Bool) (i : ℕ) (xs : List A) (d : A) → every f i xs ≡ true
     → (k : ℕ) → k < length xs → f (i + k) (get_or xs k d) ≡ true
@@ -120,6 +82,20 @@ out_every f i (x ∷ xs) d p =
     and_true (f i x) _ (rw (add-zero i) at (p zero (omega arith)))
     (out_every f (suc i) xs d
     (λ k b. let g : i + suc k ≡ suc i + k = omega arith in rw g at (p (suc k) (omega (arith, b)))))
+
+-- what the library's `all` finds of a list, and of the elements with their places
+
+pub all_every : {A : Type 0} (test : A → Bool) (i : ℕ) (xs : List A)
+    → list_all test xs ≡ every (λ _ x. test x) i xs
+unfolding every
+all_every test i [] = refl
+all_every test i (x ∷ xs) = rw (all_every test (suc i) xs)
+
+pub all_placed : {A : Type 0} (f : ℕ → A → Bool) (i : ℕ) (xs : List A)
+    → list_all (λ (p : ℕ × A). f p.0 p.1) (enumerate_from i xs) ≡ every f i xs
+unfolding every
+all_placed f i [] = refl
+all_placed f i (x ∷ xs) = rw (add-one i, all_placed f (suc i) xs)
 
 -- ---- tests that all have to hold: what they tell of each, and from each
 

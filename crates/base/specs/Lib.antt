@@ -3,3 +3,4 @@
 pub mod Refusals
 pub mod Lists
 pub mod Claims
+pub mod Answers

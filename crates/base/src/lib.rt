@@ -1,41 +1,82 @@
-// The refusals of documents 01 and 02 by number. There are no functions here: specs/ and proofs/
-// hold what every crate cites.
+// The refusals of documents 01 and 02, each with its number, and a refusal of bytes with its
+// offset. specs/ and proofs/ hold what every crate cites.
 #![tactic(auto)]
 
+ghost use Rattle.std.specs.Prelude.{◌≡◌};
+ghost use Rattle.base.specs.Answers.{refusal_number, answer_of};
+
+// Why something is refused.
+#[derive(Clone, Copy, PartialEq, Eq)]
+pub enum Refusal {
+    // n, T or S, or a value of a cell or host, is past its limits
+    Cell = 1,
+    // bytes end before what is read
+    Cut = 2,
+    // a kind that is none, or not allowed there
+    Kind = 3,
+    // a length field that is too long
+    Length = 4,
+    // a host number of n or more
+    Host = 5,
+    // a tick or end above its limit
+    Tick = 6,
+    // the sender, or a response's target or a host of its receivers, is not the ballot's host; or
+    // a message is handed to another host than its target
+    Party = 7,
+    // lent bytes are too few for what is written
+    Room = 8,
+    // the host waits after a restart
+    Waiting = 9,
+    // the clock is not above the last ballot's tick
+    SameTick = 10,
+    // a duration of 0, or above T - S
+    Duration = 11,
+    // a slot that is none, or is empty
+    Slot = 12,
+    // fewer empty slots than messages to send
+    Full = 13,
+    // two clocks would differ by more than S
+    Spread = 14,
+    // an advance by 0, or past the last tick
+    Clock = 15,
+    // a run file that is too long
+    Long = 16,
+    // a length field that is too short
+    Short = 17,
+    // the host does not name itself
+    NotHolder = 18,
+}
+
+impl Refusal {
+    // Its number, which is not 0.
+    // A method and no `From`: its contract is the definition that all others cite.
+    #[tactic(auto, unfolding(crate::specs::Answers::refusal_number))]
+    pub fn number(self) -> u8
+        ensures { result ≡ refusal_number self }
+    {
+        self as u8
+    }
+}
+
+// The number of an answer: 0 for what is done, else the refusal's.
+// A function and no `From`: Result is not of this crate.
+#[tactic(auto, unfolding(crate::specs::Answers::answer_of))]
+pub fn answer_of<T: Copy>(r: Result<T, Refusal>) -> u8
+    ensures { result ≡ answer_of r }
+{
+    match r {
+        Ok(_) => DONE,
+        Err(refusal) => refusal.number(),
+    }
+}
+
+// A refusal of bytes, and the offset of what is refused.
+#[derive(Clone, Copy, PartialEq, Eq)]
+pub struct Fault {
+    pub refusal: Refusal,
+    pub at: usize,
+}
+
+// The number of what is done.
+// Lines of a listing and C hosts have answers as numbers, and 0 is no refusal: so no variant.
 pub const DONE: u8 = 0;
-
-pub const REFUSED_CELL: u8 = 1;
-
-pub const REFUSED_CUT: u8 = 2;
-
-pub const REFUSED_KIND: u8 = 3;
-
-pub const REFUSED_LENGTH: u8 = 4;
-
-pub const REFUSED_HOST: u8 = 5;
-
-pub const REFUSED_TICK: u8 = 6;
-
-pub const REFUSED_PARTY: u8 = 7;
-
-pub const REFUSED_ROOM: u8 = 8;
-
-pub const REFUSED_WAITING: u8 = 9;
-
-pub const REFUSED_SAME_TICK: u8 = 10;
-
-pub const REFUSED_DURATION: u8 = 11;
-
-pub const REFUSED_SLOT: u8 = 12;
-
-pub const REFUSED_FULL: u8 = 13;
-
-pub const REFUSED_SPREAD: u8 = 14;
-
-pub const REFUSED_CLOCK: u8 = 15;
-
-pub const REFUSED_LONG: u8 = 16;
-
-pub const REFUSED_SHORT: u8 = 17;
-
-pub const REFUSED_NOT_HOLDER: u8 = 18;

@@ -9,8 +9,8 @@ fn main(rt: HostRuntime) -> io::Result<()> {
     let mut run = room::run_bytes();
     let n = room::fill(&mut rt.reader(), &mut run)?;
     let mut out = room::listing_bytes();
-    let listed = player::list(&run[..n], &mut out);
-    let len = listed.len;
-    let _ = io::writer(&rt).write_all(&out[..len]);
+    if let Ok(len) = player::list(&run[..n], &mut out) {
+        let _ = io::writer(&rt).write_all(&out[..len]);
+    }
     Ok(())
 }

@@ -1,16 +1,18 @@
 -- What the limits of a cell tell of each host by its number and of each message under way, and the
 -- limits from that. Assumes nothing.
+use Rattle.std.specs.Prelude.{Some}
 use mathlib.Core.Path.{◌≡◌, refl}
-use mathlib.Core.Bool.{true}
-use mathlib.Core.List.{[]}
+use mathlib.Core.Bool.{Bool, true, false}
+use mathlib.Core.List.{[], ◌∷◌}
 use Prim.Native.Nat.{ℕ, ◌+◌, ◌≤◌, ◌<◌}
 use native.Mathlib.Nat.{zero-add}
 use native.Mathlib.Decide.{dec_lt}
 use native.Mathlib.Omega.{arith}
-use lib.Dec.{leb}
+use lib.Dec.{leb, eqb}
 use lib.ListN.{length, get_or-eq_default}
 use borrow.Author.Tests.{leb-true}
-use Rattle.base.specs.Refusals.{done, all_hold, refused_cell, refused_tick}
+use Rattle.base.specs.Refusals.{done, unless, first_of, all_hold, refused_cell, refused_tick}
+use Rattle.base.specs.Refusals.{refused_full}
 use Rattle.base.specs.Lists.{All, all_of}
 use Rattle.base.proofs.Tests.{unless_passed}
 use Rattle.base.proofs.Lists.{every_in, out_every, all_of_in, out_all_of}
@@ -23,7 +25,6 @@ use Rattle.host.specs.Steps.{host_ok}
 use Rattle.state.proofs.StateLimits.{SettingsIn, settings_in}
 use Rattle.state.proofs.Blank.{blank_fits}
 use Rattle.host.proofs.HostLimits.{HostIn, host_in}
-use Rattle.slots.specs.declared.Content.{Content}
 use Rattle.slots.specs.Slots.{slots_ok}
 use Rattle.slots.proofs.Laws.{Holds, Sendable, slots_in, out_slots, holds_at}
 use Rattle.places.specs.Places.{blank_host, place_ok, own_state_ok, places_ok, states_ok}
@@ -42,6 +43,17 @@ opens_in s clock e =
     let p = unless_passed (all_hold (settings_tests s)) refused_cell _ refl e in
     let q = unless_passed (leb clock last_tick) refused_tick [] refl p.1 in
     record { settings = p.0; early = leb-true clock last_tick q.0 }
+
+-- 13 does not refuse it
+pub opening_places : (s : Settings) (clock : ℕ) → eqb (opening_refusal s clock) refused_full ≡ false
+unfolding opening_refusal settings_ok first_of all_of
+opening_places s clock = go (settings_ok s) (leb clock last_tick)
+  where
+    go : (a b : Bool)
+        → eqb (first_of (unless a refused_cell ∷ unless b refused_tick ∷ [])) refused_full ≡ false
+    go true true = refl
+    go true false = refl
+    go false b = refl
 
 pub least_opens : Opens least_settings 0
 unfolding settings_ok last_longest all_of
@@ -155,7 +167,7 @@ n_of c e = settings_in c.settings (tests_in_lem c e).settings
 
 -- writing to its target refuses nothing in a message under way
 pub message_of_lem : (c : Cell) (i : ℕ) (m : Message) → cell_ok c ≡ true
-    → content_at c i ≡ Content.One m
+    → content_at c i ≡ Some m
     → fault_of (sizes_of c.settings) (numbers_of m) ≡ done
 message_of_lem c i m e f =
     holds_at (Sendable (sizes_of c.settings)) c.slots i m

@@ -1,5 +1,6 @@
 -- What holds of both outcomes of an event holds of it; that the settings stay; what a step sends;
 -- and that a delivery counts its own slot as empty. Assumes nothing.
+use Rattle.std.specs.Prelude.{Option, Some, None}
 use mathlib.Core.Path.{◌≡◌, refl, sym, ap}
 use mathlib.Core.Bool.{Bool}
 use mathlib.Core.List.{List}
@@ -15,17 +16,15 @@ use Rattle.quorum.specs.Sets.{Member, members}
 use Rattle.quorum.proofs.Laws.{members_all}
 use Rattle.message.specs.declared.Message.{Message}
 use Rattle.message.specs.Message.{addressed_to}
-use Rattle.host.specs.declared.Sent.{Sent}
-use Rattle.host.specs.declared.Stepped.{Stepped}
+use Rattle.host.specs.Stepped.{Stepped}
 use Rattle.slots.specs.declared.Slot.{Slot}
-use Rattle.slots.specs.declared.Content.{Content}
 use Rattle.slots.specs.Slots.{empties}
 use Rattle.slots.proofs.Laws.{Holds, holds_placed_each, length_placed_each, freed_counts}
 use Rattle.cell.specs.declared.Cell.{Cell}
 use Rattle.cell.specs.declared.Event.{Event}
 use Rattle.cell.specs.declared.Event.TheVariants.{AdvanceAll, AdvanceOne, Start, Deliver}
 use Rattle.cell.specs.declared.Event.TheVariants.{Lose, Repeat, Restart, Release}
-use Rattle.cell.specs.declared.Answered.{Answered}
+use Rattle.cell.specs.Answered.{Answered}
 use Rattle.cell.specs.CellLimits.{content_at}
 use Rattle.cell.specs.Events.{answered_with, cell_of, messages_in, step_full, sent_to, stepped}
 use Rattle.cell.specs.Events.{advanced_all, advanced_one, deliver_step, counted_for, deliver_full}
@@ -56,15 +55,16 @@ refused_same c e =
 
 -- ---- the settings stay
 
-delivered_settings : (c : Cell) (i : ℕ) (t : Content) → (delivered c i t).settings ≡ c.settings
+delivered_settings : (c : Cell) (i : ℕ) (t : Option Message) → (delivered c i t).settings
+    ≡ c.settings
 unfolding delivered stepped
-delivered_settings c i Content.Empty = refl
-delivered_settings c i (Content.One m) = refl
+delivered_settings c i None = refl
+delivered_settings c i (Some m) = refl
 
-repeated_settings : (c : Cell) (t : Content) → (repeated c t).settings ≡ c.settings
+repeated_settings : (c : Cell) (t : Option Message) → (repeated c t).settings ≡ c.settings
 unfolding repeated
-repeated_settings c Content.Empty = refl
-repeated_settings c (Content.One m) = refl
+repeated_settings c None = refl
+repeated_settings c (Some m) = refl
 
 after_settings : (c : Cell) (e : Event) → (after_of c e).settings ≡ c.settings
 unfolding after_of advanced_all advanced_one stepped
@@ -84,19 +84,19 @@ settings_same c e =
 
 -- ---- what a step sends
 
-pub length_sent : (n : ℕ) (ss : List Slot) (sent : Sent) (receivers : ℕ)
+pub length_sent : (n : ℕ) (ss : List Slot) (sent : Option Message) (receivers : ℕ)
     → length (sent_to n ss sent receivers) ≡ length ss
 unfolding sent_to
-length_sent n ss Sent.Nothing receivers = refl
-length_sent n ss (Sent.One m) receivers = length_placed_each ss m (members n receivers)
+length_sent n ss None receivers = refl
+length_sent n ss (Some m) receivers = length_placed_each ss m (members n receivers)
 
-pub holds_sent : (P : Message → Type 0) (n : ℕ) (ss : List Slot) (sent : Sent) (receivers : ℕ)
-    → Holds P ss
-    → ((m : Message) (h : ℕ) → sent ≡ Sent.One m → Member n receivers h → P (addressed_to m h))
+pub holds_sent : (P : Message → Type 0) (n : ℕ) (ss : List Slot) (sent : Option Message)
+    (receivers : ℕ) → Holds P ss
+    → ((m : Message) (h : ℕ) → sent ≡ Some m → Member n receivers h → P (addressed_to m h))
     → Holds P (sent_to n ss sent receivers)
 unfolding sent_to
-holds_sent P n ss Sent.Nothing receivers p f = p
-holds_sent P n ss (Sent.One m) receivers p f =
+holds_sent P n ss None receivers p f = p
+holds_sent P n ss (Some m) receivers p f =
     holds_placed_each P ss m (members n receivers) p
     (all_map (members n receivers) (λ h i. f m h refl i) (members_all n receivers))
 
@@ -115,7 +115,7 @@ full_passed ss step l =
 
 pub reply_fits : (c : Cell) (i : ℕ) (m : Message) → i < length c.slots
     → messages_in (deliver_step c m).sent (deliver_step c m).receivers ≤ 1
-    → deliver_full c i (Content.One m) ≡ done
+    → deliver_full c i (Some m) ≡ done
 unfolding deliver_full
 reply_fits c i m b k =
     full_passed (counted_for c i) (deliver_step c m) (omega (arith, freed_counted c i b))

@@ -1,5 +1,7 @@
 -- What an event does to each host: nothing, an advance, a step or a restart. So what holds of these
 -- holds of every host from before an event to after it. Assumes nothing.
+use Rattle.std.specs.Prelude.{Option, Some, None}
+use Rattle.message.specs.declared.Message.{Message}
 use mathlib.Core.List.{List}
 use Prim.Native.Nat.{ℕ, ◌<◌}
 use native.Mathlib.Decide.{dec_lt}
@@ -10,12 +12,11 @@ use Rattle.host.specs.declared.Host.{Host}
 use Rattle.host.specs.Steps.{advanced_host, restarted_host}
 use Rattle.host.proofs.Outcomes.{Cause, begins, lets_go, gets, step_on}
 use Rattle.slots.specs.declared.Slot.{Slot}
-use Rattle.slots.specs.declared.Content.{Content}
 use Rattle.cell.specs.declared.Cell.{Cell}
 use Rattle.cell.specs.declared.Event.{Event}
 use Rattle.cell.specs.declared.Event.TheVariants.{AdvanceAll, AdvanceOne, Start, Deliver}
 use Rattle.cell.specs.declared.Event.TheVariants.{Lose, Repeat, Restart, Release}
-use Rattle.cell.specs.declared.Answered.{Answered}
+use Rattle.cell.specs.Answered.{Answered}
 use Rattle.cell.specs.CellLimits.{host_at, with_host_at, content_at}
 use Rattle.cell.specs.Events.{cell_of, stepped, advanced_all, advanced_one, delivered, repeated}
 use Rattle.cell.specs.Events.{after_of, event_of}
@@ -51,15 +52,15 @@ module _ (c : Cell) (P : Host → Host → Type 0) (q : Changes c.settings P) (o
   unfolding stepped
   a_step h ss cause = one_host h _ (q.stepped (host_at c h) cause)
 
-  a_delivery : (i : ℕ) (t : Content) → To (delivered c i t)
+  a_delivery : (i : ℕ) (t : Option Message) → To (delivered c i t)
   unfolding delivered
-  a_delivery i Content.Empty k = q.same (host_at c k)
-  a_delivery i (Content.One m) k = a_step (target_of m) _ (gets m) k
+  a_delivery i None k = q.same (host_at c k)
+  a_delivery i (Some m) k = a_step (target_of m) _ (gets m) k
 
-  a_repeat : (t : Content) → To (repeated c t)
+  a_repeat : (t : Option Message) → To (repeated c t)
   unfolding repeated
-  a_repeat Content.Empty k = q.same (host_at c k)
-  a_repeat (Content.One m) k = q.same (host_at c k)
+  a_repeat None k = q.same (host_at c k)
+  a_repeat (Some m) k = q.same (host_at c k)
 
   after : (e : Event) → To (after_of c e)
   unfolding after_of advanced_one

@@ -1,6 +1,7 @@
 -- How many slots an event looks at: those up to the last that it fills where it is done, none where
 -- anything but 13 refuses it, all where 13 does; and that what a step sends is placed to as many
 -- receivers as 13 counts. Assumes nothing.
+use Rattle.std.specs.Prelude.{Option, Some, None}
 use mathlib.Core.Path.{◌≡◌, refl, sym, ap, ◌∙◌}
 use mathlib.Core.Bool.{Bool, true, false, cond, ◌&&◌, not}
 use mathlib.Core.List.{List, [], ◌∷◌}
@@ -24,15 +25,13 @@ use Rattle.rules.specs.Rules.{is_waiting, is_fresh, names_itself}
 use Rattle.state.specs.declared.Settings.{Settings}
 use Rattle.state.specs.StateLimits.{duration_ok, sizes_of}
 use Rattle.host.specs.declared.Host.{Host}
-use Rattle.host.specs.declared.Sent.{Sent}
-use Rattle.host.specs.declared.Stepped.{Stepped}
+use Rattle.host.specs.Stepped.{Stepped}
 use Rattle.host.specs.Claims.{writes}
 use Rattle.host.specs.Steps.{host_ok, advance_refusal, restart_refusal, start_refusal}
 use Rattle.host.specs.Steps.{release_refusal}
 use Rattle.host.proofs.Within.{Passes, fine_step}
 use Rattle.host.proofs.Outcomes.{Cause, begins, lets_go, gets, step_on}
 use Rattle.slots.specs.declared.Slot.{Slot}
-use Rattle.slots.specs.declared.Content.{Content}
 use Rattle.slots.specs.Slots.{slot_count, is_empty, slot_refusal, empties, full_refusal, looked_for}
 use Rattle.slots.specs.Slots.{freed}
 use Rattle.slots.specs.Claims.{FilledUpTo}
@@ -42,7 +41,7 @@ use Rattle.cell.specs.declared.Cell.{Cell}
 use Rattle.cell.specs.declared.Event.{Event}
 use Rattle.cell.specs.declared.Event.TheVariants.{AdvanceAll, AdvanceOne, Start, Deliver}
 use Rattle.cell.specs.declared.Event.TheVariants.{Lose, Repeat, Restart, Release}
-use Rattle.cell.specs.declared.Answered.{Answered}
+use Rattle.cell.specs.Answered.{Answered}
 use Rattle.cell.specs.CellLimits.{host_at, content_at, cell_ok, clocks_near}
 use Rattle.cell.specs.Events.{host_refusal, messages_in, step_full, step_looked, hosts_refusal}
 use Rattle.cell.specs.Events.{sent_to, stepped, advance_all_refusal, advanced_all, advanced_one}
@@ -65,20 +64,20 @@ count_none a k n f = rw (ne_eqb a done n, ne_eqb a refused_full f)
 -- ---- what a step sends has as many receivers as 13 counts
 
 -- the set has as many hosts as it has below n
-unfoldable pub Counted : ℕ → Sent → ℕ → Type 0
-Counted n Sent.Nothing receivers = Unit
-Counted n (Sent.One m) receivers = size_of receivers ≡ length (members n receivers)
+unfoldable pub Counted : ℕ → Option Message → ℕ → Type 0
+Counted n None receivers = Unit
+Counted n (Some m) receivers = size_of receivers ≡ length (members n receivers)
 
-pub counted_writes : (s : Settings) (sent : Sent) (receivers : ℕ) → writes s sent receivers
-    → Counted s.n sent receivers
+pub counted_writes : (s : Settings) (sent : Option Message) (receivers : ℕ)
+    → writes s sent receivers → Counted s.n sent receivers
 unfolding writes Counted
-counted_writes s Sent.Nothing receivers w = tt
-counted_writes s (Sent.One m) receivers w =
+counted_writes s None receivers w = tt
+counted_writes s (Some m) receivers w =
     let p = passed_to (sizes_of s) (numbers_of m) receivers w in
     sym (members_length s.n receivers (ltb-true receivers (2 ^ s.n) p.target))
 
 -- to one host
-pub counted_one : (n h : ℕ) (m : Message) → h < n → Counted n (Sent.One m) (single_of h)
+pub counted_one : (n h : ℕ) (m : Message) → h < n → Counted n (Some m) (single_of h)
 unfolding Counted
 counted_one n h m b = size_single h ∙ sym (ap length (members_single n h b))
 
@@ -89,12 +88,12 @@ room_for : (k : ℕ) (ss : List Slot) → first_of (full_refusal k ss ∷ []) �
 room_for k ss e =
     leb-true k (empties ss) (unless_passed (leb k (empties ss)) refused_full [] refl e).0
 
-sent_fills : (n : ℕ) (ss : List Slot) (sent : Sent) (receivers : ℕ) → Counted n sent receivers
-    → messages_in sent receivers ≤ empties ss
+sent_fills : (n : ℕ) (ss : List Slot) (sent : Option Message) (receivers : ℕ)
+    → Counted n sent receivers → messages_in sent receivers ≤ empties ss
     → FilledUpTo (looked_for (messages_in sent receivers) ss) ss (sent_to n ss sent receivers)
 unfolding Counted messages_in sent_to
-sent_fills n ss Sent.Nothing receivers k b = rw (slots.nothing ss) (slots.filled_none ss)
-sent_fills n ss (Sent.One m) receivers k b =
+sent_fills n ss None receivers k b = rw (slots.nothing ss) (slots.filled_none ss)
+sent_fills n ss (Some m) receivers k b =
     rw k (slots.filled ss m (members n receivers) (omega (arith, k, b)))
 
 module _ (c : Cell) where
@@ -123,7 +122,7 @@ module _ (c : Cell) where
       step_fills c.slots h cause p1.0 p2.0 (f p3.0) p3.1
 
   -- an event on a slot that 12 does not refuse
-  slot_passed : (i : ℕ) (t : Content) (ks : List ℕ)
+  slot_passed : (i : ℕ) (t : Option Message) (ks : List ℕ)
       → first_of (unless (cell_ok c) refused_cell ∷ slot_refusal i t ∷ ks) ≡ done
       → (cell_ok c ≡ true) × (not (is_empty t) ≡ true) × (first_of ks ≡ done)
   slot_passed i t ks e =
@@ -131,26 +130,26 @@ module _ (c : Cell) where
       let p2 = unless_passed (ltb i slot_count && not (is_empty t)) refused_slot ks refl p1.1 in
       (p1.0, (both (ltb i slot_count) (not (is_empty t)) p2.0).1, p2.1)
 
-  delivered_fills : (i : ℕ) (t : Content) → content_at c i ≡ t
+  delivered_fills : (i : ℕ) (t : Option Message) → content_at c i ≡ t
       → first_of (unless (cell_ok c) refused_cell ∷ slot_refusal i t ∷ deliver_full c i t ∷ [])
       ≡ done
       → FilledUpTo (deliver_looked c i t) (freed c.slots i) (delivered c i t).slots
   unfolding deliver_full deliver_looked delivered is_empty
-  delivered_fills i Content.Empty q e = true_false (sym (slot_passed i Content.Empty _ e).1)
-  delivered_fills i (Content.One m) q e =
-      let p = slot_passed i (Content.One m) _ e in
+  delivered_fills i None q e = true_false (sym (slot_passed i None _ e).1)
+  delivered_fills i (Some m) q e =
+      let p = slot_passed i (Some m) _ e in
       let f = message_of_lem c i m p.0 q in
       step_fills (freed c.slots i) (target_of m) (gets m) p.0
       (target_in_lem (sizes_of c.settings) m f) f p.2
 
-  repeated_fills : (i : ℕ) (t : Content)
+  repeated_fills : (i : ℕ) (t : Option Message)
       → first_of (unless (cell_ok c) refused_cell ∷ slot_refusal i t ∷ full_refusal 1 c.slots ∷ [])
       ≡ done → FilledUpTo (looked_for 1 c.slots) c.slots (repeated c t).slots
   unfolding repeated is_empty
-  repeated_fills i Content.Empty e = true_false (sym (slot_passed i Content.Empty _ e).1)
-  repeated_fills i (Content.One m) e =
+  repeated_fills i None e = true_false (sym (slot_passed i None _ e).1)
+  repeated_fills i (Some m) e =
       slots.filled_one c.slots m
-      (room_for 1 c.slots (slot_passed i (Content.One m) _ e).2)
+      (room_for 1 c.slots (slot_passed i (Some m) _ e).2)
 
   event_fills : (e : Event) → refusal_of c e ≡ done
       → FilledUpTo (placing_of c e) (slots_found c e) (after_of c e).slots
@@ -248,8 +247,8 @@ module _ (c : Cell) (z : Sized c) where
   host_past h ks =
       full_past (host_refusal c h) ks (not_full (ltb h c.settings.n) refused_host refl)
 
-  slot_past : (i : ℕ) (t : Content) (ks : List ℕ) → first_of (slot_refusal i t ∷ ks) ≡ refused_full
-      → first_of ks ≡ refused_full
+  slot_past : (i : ℕ) (t : Option Message) (ks : List ℕ)
+      → first_of (slot_refusal i t ∷ ks) ≡ refused_full → first_of ks ≡ refused_full
   slot_past i t ks =
       full_past (slot_refusal i t) ks
       (not_full (ltb i slot_count && not (is_empty t)) refused_slot refl)
@@ -261,16 +260,16 @@ module _ (c : Cell) (z : Sized c) where
       (sym (first_only (step_full c.slots step))
       ∙ full_past k _ n (host_past h _ (cell_past _ e)))
 
-  delivered_looked : (i : ℕ) (t : Content)
+  delivered_looked : (i : ℕ) (t : Option Message)
       → first_of (unless (cell_ok c) refused_cell ∷ slot_refusal i t ∷ deliver_full c i t ∷ [])
       ≡ refused_full → deliver_looked c i t ≡ slot_count
   unfolding deliver_full deliver_looked
-  delivered_looked i Content.Empty e =
+  delivered_looked i None e =
       absurd (none_full (full_past done [] (λ q. absurd (omega (arith, q)))
-      (slot_past i Content.Empty _ (cell_past _ e))))
-  delivered_looked i (Content.One m) e =
+      (slot_past i None _ (cell_past _ e))))
+  delivered_looked i (Some m) e =
       full_looked _ (length_freed c.slots i ∙ z.slots) _
-      (sym (first_only _) ∙ slot_past i (Content.One m) _ (cell_past _ e))
+      (sym (first_only _) ∙ slot_past i (Some m) _ (cell_past _ e))
 
   full_placing : (e : Event) → refusal_of c e ≡ refused_full → placing_of c e ≡ slot_count
   unfolding refusal_of placing_of advance_all_refusal advance_one_refusal start_at_refusal

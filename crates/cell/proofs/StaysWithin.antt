@@ -1,5 +1,7 @@
 -- A cell within its limits stays within them, whatever the events: opening, each event, and any
 -- run. A loop over events may carry `Sound` and test nothing again. Assumes nothing.
+use Rattle.std.specs.Prelude.{Option, Some, None}
+use Rattle.message.specs.declared.Message.{Message}
 use mathlib.Core.Path.{◌≡◌, refl, sym, ◌∙◌}
 use mathlib.Core.Bool.{true}
 use mathlib.Core.List.{List, [], ◌∷◌}
@@ -15,7 +17,7 @@ use Rattle.message.proofs.Laws.{target_in_lem}
 use Rattle.state.specs.declared.Settings.{Settings}
 use Rattle.state.specs.StateLimits.{sizes_of}
 use Rattle.host.specs.declared.Host.{Host}
-use Rattle.host.specs.declared.Stepped.{Stepped}
+use Rattle.host.specs.Stepped.{Stepped}
 use Rattle.host.specs.Steps.{host_ok, advance_refusal, advanced_host, restart_refusal}
 use Rattle.host.specs.Steps.{restarted_host}
 use Rattle.state.proofs.StateLimits.{settings_in}
@@ -29,7 +31,6 @@ use Rattle.places.specs.Places.{blank_host, new_host}
 use Rattle.places.specs.Parts.{Opens}
 use Rattle.places.proofs.Opening.{new_blank, new_at, new_fits}
 use Rattle.slots.specs.declared.Slot.{Slot}
-use Rattle.slots.specs.declared.Content.{Content}
 use Rattle.slots.specs.Slots.{placed, freed}
 use Rattle.slots.proofs.Laws.{Holds, Sendable, length_placed, length_freed, holds_none, holds_freed}
 use Rattle.slots.proofs.Laws.{holds_placed, holds_at}
@@ -37,7 +38,7 @@ use Rattle.cell.specs.declared.Cell.{Cell}
 use Rattle.cell.specs.declared.Event.{Event}
 use Rattle.cell.specs.declared.Event.TheVariants.{AdvanceAll, AdvanceOne, Start, Deliver}
 use Rattle.cell.specs.declared.Event.TheVariants.{Lose, Repeat, Restart, Release}
-use Rattle.cell.specs.declared.Answered.{Answered}
+use Rattle.cell.specs.Answered.{Answered}
 use Rattle.cell.specs.CellLimits.{host_at, with_host_at, content_at, clocks_near, cell_ok}
 use Rattle.cell.specs.Events.{answered_with, cell_of, with_slots, sent_to, stepped}
 use Rattle.cell.specs.Events.{opening_refusal, opened_with, least_settings, opening_of}
@@ -235,11 +236,11 @@ kept_step_at c h k cause o f e =
     step_kept c h c.slots (step_on s x cause) o p1.0 (stays_step s x cause)
     (fine_step s x cause (host_in s x (j.host h p1.0)) (f p2.0)) refl j.messages
 
-kept_deliver : (c : Cell) (i : ℕ) (t : Content) → content_at c i ≡ t → Sound c
+kept_deliver : (c : Cell) (i : ℕ) (t : Option Message) → content_at c i ≡ t → Sound c
     → Sound (delivered c i t)
 unfolding delivered
-kept_deliver c i Content.Empty e o = o
-kept_deliver c i (Content.One m) e o =
+kept_deliver c i None e o = o
+kept_deliver c i (Some m) e o =
     let s = c.settings in
     let j = cell_in c o.0 o.1 in
     let f = holds_at (Sendable (sizes_of s)) c.slots i m j.messages e in
@@ -249,10 +250,11 @@ kept_deliver c i (Content.One m) e o =
     (fine_step s h (gets m) (host_in s h (j.host (target_of m) b)) f) (length_freed c.slots i)
     (holds_freed (Sendable (sizes_of s)) c.slots i j.messages)
 
-kept_repeat : (c : Cell) (i : ℕ) (t : Content) → content_at c i ≡ t → Sound c → Sound (repeated c t)
+kept_repeat : (c : Cell) (i : ℕ) (t : Option Message) → content_at c i ≡ t → Sound c
+    → Sound (repeated c t)
 unfolding repeated
-kept_repeat c i Content.Empty e o = o
-kept_repeat c i (Content.One m) e o =
+kept_repeat c i None e o = o
+kept_repeat c i (Some m) e o =
     let s = c.settings in
     let p = (cell_in c o.0 o.1).messages in
     slots_kept c (placed c.slots m) o (length_placed c.slots m)

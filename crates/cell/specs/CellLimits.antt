@@ -1,10 +1,10 @@
 -- A cell's parts, and the limits of a cell value: number 1. Assumes nothing.
-use Rattle.std.specs.Prelude.{ℕ, Bool, [], ◌∷◌, get_or, set}
+use Rattle.message.specs.declared.Message.{Message}
+use Rattle.std.specs.Prelude.{ℕ, Bool, [], ◌∷◌, get_or, set, Option}
 use Rattle.base.specs.Lists.{all_of}
 use Rattle.state.specs.StateLimits.{settings_ok, sizes_of}
 use Rattle.host.specs.declared.Host.{Host}
 use Rattle.places.specs.Places.{blank_host, places_ok, states_ok, clocks_ok}
-use Rattle.slots.specs.declared.Content.{Content}
 use Rattle.slots.specs.Slots.{empty_slot, slots_ok}
 use Rattle.cell.specs.declared.Cell.{Cell}
 
@@ -17,7 +17,7 @@ abbrev pub with_host_at : Cell → ℕ → Host → Cell
 with_host_at c h x = record { settings = c.settings; hosts = set c.hosts h x; slots = c.slots }
 
 -- what a slot holds
-abbrev pub content_at : Cell → ℕ → Content
+abbrev pub content_at : Cell → ℕ → Option Message
 content_at c i = (get_or c.slots i empty_slot).content
 
 -- 14 where it does not hold: 'at every moment any two clocks differ by at most S'

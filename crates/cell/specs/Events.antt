@@ -1,7 +1,7 @@
 -- Opening and the eight events, in document 01's order, with document 02's release: what is refused
 -- and what is done, apart, and how many slots were looked at. The host's part of each is the rule
 -- book's. Assumes nothing.
-use Rattle.std.specs.Prelude.{ℕ, cond, ◌||◌, List, [], ◌∷◌, ltb, leb, eqb}
+use Rattle.std.specs.Prelude.{ℕ, cond, ◌||◌, List, [], ◌∷◌, ltb, leb, eqb, Option, Some, None}
 use Rattle.base.specs.Refusals.{done, unless, first_of, test, Refusal, refusal, answer_by}
 use Rattle.base.specs.Refusals.{refused_cell, refused_host, refused_tick, refused_full}
 use Rattle.base.specs.Refusals.{refused_spread}
@@ -10,13 +10,11 @@ use Rattle.message.specs.declared.Message.{Message}
 use Rattle.message.specs.Message.{last_tick, target_of}
 use Rattle.state.specs.declared.Settings.{Settings}
 use Rattle.state.specs.StateLimits.{OpeningField, opening_clock, settings_tests}
-use Rattle.host.specs.declared.Sent.{Sent}
-use Rattle.host.specs.declared.Stepped.{Stepped}
+use Rattle.host.specs.Stepped.{Stepped}
 use Rattle.host.specs.Steps.{advance_refusal, advanced_host, restart_refusal, restarted_host}
 use Rattle.host.specs.Steps.{start_refusal, on_start, release_refusal, on_release, on_delivery}
 use Rattle.places.specs.Places.{new_hosts, advances_refusal, advanced_hosts}
 use Rattle.slots.specs.declared.Slot.{Slot}
-use Rattle.slots.specs.declared.Content.{Content}
 use Rattle.slots.specs.Slots.{no_messages, slot_refusal, full_refusal, placed, placed_to}
 use Rattle.slots.specs.Slots.{looked_for}
 use Rattle.slots.specs.Slots.{freed}
@@ -24,7 +22,7 @@ use Rattle.cell.specs.declared.Cell.{Cell}
 use Rattle.cell.specs.declared.Event.{Event}
 use Rattle.cell.specs.declared.Event.TheVariants.{AdvanceAll, AdvanceOne, Start, Deliver}
 use Rattle.cell.specs.declared.Event.TheVariants.{Lose, Repeat, Restart, Release}
-use Rattle.cell.specs.declared.Answered.{Answered}
+use Rattle.cell.specs.Answered.{Answered}
 use Rattle.cell.specs.CellLimits.{host_at, with_host_at, content_at, clocks_near, cell_ok}
 
 -- ---- parts of an event
@@ -56,9 +54,9 @@ abbrev pub host_refusal : Cell → ℕ → ℕ
 host_refusal c h = unless (ltb h c.settings.n) refused_host
 
 -- how many messages a step sends: one to each of its receivers, all of them below n
-unfoldable pub messages_in : Sent → ℕ → ℕ
-messages_in Sent.Nothing receivers = 0
-messages_in (Sent.One m) receivers = size_of receivers
+unfoldable pub messages_in : Option Message → ℕ → ℕ
+messages_in None receivers = 0
+messages_in (Some m) receivers = size_of receivers
 
 -- 13, for what a step sends
 abbrev pub step_full : List Slot → Stepped → ℕ
@@ -69,9 +67,9 @@ abbrev pub step_looked : List Slot → Stepped → ℕ
 step_looked ss step = looked_for (messages_in step.sent step.receivers) ss
 
 -- the slots with what a step sends
-unfoldable pub sent_to : ℕ → List Slot → Sent → ℕ → List Slot
-sent_to n ss Sent.Nothing receivers = ss
-sent_to n ss (Sent.One m) receivers = placed_to n ss m receivers
+unfoldable pub sent_to : ℕ → List Slot → Option Message → ℕ → List Slot
+sent_to n ss None receivers = ss
+sent_to n ss (Some m) receivers = placed_to n ss m receivers
 
 -- a host's step carried into the cell, with these slots
 unfoldable pub stepped : Cell → ℕ → List Slot → Stepped → Cell
@@ -163,14 +161,14 @@ deliver_step c m = on_delivery c.settings (host_at c (target_of m)) m
 abbrev pub counted_for : Cell → ℕ → List Slot
 counted_for c i = freed c.slots i
 
-unfoldable pub deliver_full : Cell → ℕ → Content → ℕ
-deliver_full c i Content.Empty = done
-deliver_full c i (Content.One m) = step_full (counted_for c i) (deliver_step c m)
+unfoldable pub deliver_full : Cell → ℕ → Option Message → ℕ
+deliver_full c i None = done
+deliver_full c i (Some m) = step_full (counted_for c i) (deliver_step c m)
 
 -- the slot that a delivery frees is empty for the walk
-unfoldable pub deliver_looked : Cell → ℕ → Content → ℕ
-deliver_looked c i Content.Empty = 0
-deliver_looked c i (Content.One m) = step_looked (counted_for c i) (deliver_step c m)
+unfoldable pub deliver_looked : Cell → ℕ → Option Message → ℕ
+deliver_looked c i None = 0
+deliver_looked c i (Some m) = step_looked (counted_for c i) (deliver_step c m)
 
 unfoldable pub deliver_refusal : Cell → ℕ → ℕ
 deliver_refusal c i =
@@ -182,9 +180,9 @@ deliver_refusal c i =
     )
 
 -- 'empties the slot, then the receiver acts'
-unfoldable pub delivered : Cell → ℕ → Content → Cell
-delivered c i Content.Empty = c
-delivered c i (Content.One m) = stepped c (target_of m) (freed c.slots i) (deliver_step c m)
+unfoldable pub delivered : Cell → ℕ → Option Message → Cell
+delivered c i None = c
+delivered c i (Some m) = stepped c (target_of m) (freed c.slots i) (deliver_step c m)
 
 -- ---- lose a slot: 1, 12
 
@@ -203,9 +201,9 @@ repeat_refusal c i =
     )
 
 -- 'copies a slot's message into the lowest empty slot'
-unfoldable pub repeated : Cell → Content → Cell
-repeated c Content.Empty = c
-repeated c (Content.One m) = with_slots c (placed c.slots m)
+unfoldable pub repeated : Cell → Option Message → Cell
+repeated c None = c
+repeated c (Some m) = with_slots c (placed c.slots m)
 
 -- ---- restart a host: 1, 5
 

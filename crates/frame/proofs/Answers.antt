@@ -26,8 +26,8 @@ use Rattle.message.specs.Faults.{fault_to}
 use Rattle.message.proofs.Laws.{passed_to}
 use Rattle.layout.specs.Layout.{kind_length, offset_of, fore_length, bytes_of, numbers_in}
 use Rattle.layout.proofs.Laws.{message_place, short_refused, long_refused, bytes_length}
-use Rattle.frame.specs.declared.Found.TheVariants.{Frame, Fault}
-use Rattle.frame.specs.declared.Reading.TheVariants.{Whole, Refused}
+use Rattle.frame.specs.Parts.{Frame, Fault}
+use Rattle.frame.specs.Reading.{Whole, Refused}
 use Rattle.frame.specs.Reading.{told_length, told_kind, read_refusals, read_answer, read_offset}
 use Rattle.frame.specs.Reading.{read_of}
 use Rattle.frame.specs.Writing.{frame_of, write_answer, frames_in, frames_of, answer_to}

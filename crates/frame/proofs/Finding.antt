@@ -16,10 +16,11 @@ use Rattle.message.specs.Message.{known_kind}
 use Rattle.message.specs.Faults.{sizes_fit, fault_of, refusals_of}
 use Rattle.layout.specs.Layout.{kind_length, kind_offset, length_offset, fore_length, offset_in}
 use Rattle.layout.specs.Layout.{offset_of, numbers_in}
-use Rattle.frame.specs.declared.Found.TheVariants.{Fault}
+use Rattle.frame.specs.Parts.{Fault}
 use Rattle.frame.specs.Reading.{told_length, told_kind, read_answer, read_offset}
 use Rattle.frame.specs.Parts.{found_of, found_with}
-use Rattle.frame.proofs.Answers.{Tested, read_whole, offset_whole}
+use Rattle.layout.proofs.Laws.{fault_place}
+use Rattle.frame.proofs.Answers.{Tested, read_whole, offset_whole, fault_number}
 
 pub found_cell : (z : Sizes) (s : List ℕ) → sizes_fit z ≡ false
     → found_of z s ≡ Fault refused_cell 0
@@ -91,7 +92,9 @@ found_whole z s c l k t r =
     in
     rw (read_whole z s whole, offset_whole z s whole)
 
--- the laws by which `find` proves
+-- the laws by which `read_numbers` and `find` prove
+pub ruleset number_rules = (fault_number, fault_place)
+
 pub ruleset found_rules = (
   found_cell,
   found_fore,

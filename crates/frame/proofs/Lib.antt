@@ -9,3 +9,4 @@ pub mod Sets
 pub mod Offsets
 pub mod Claims
 pub mod Examples
+pub mod Wrote

@@ -35,7 +35,7 @@ use Rattle.layout.specs.Layout.{more_of, kind_length, offset_in, place_in, lengt
 use Rattle.layout.specs.Layout.{value_in}
 use Rattle.layout.specs.Layout.{numbers_in}
 use Rattle.layout.proofs.Laws.{length_least}
-use Rattle.frame.specs.declared.Reading.TheVariants.{Whole, Refused}
+use Rattle.frame.specs.Reading.{Whole, Refused}
 use Rattle.frame.specs.Reading.{told_length, told_kind, read_refusals, read_answer, read_offset}
 use Rattle.frame.specs.Reading.{read_with, read_of}
 use Rattle.frame.specs.Claims.{former_refusals, former_of, former_number, as_former, places_in}

@@ -20,8 +20,8 @@ use Rattle.message.specs.Faults.{sizes_fit, fault_of}
 use Rattle.message.proofs.Laws.{message_numbers}
 use Rattle.layout.specs.Layout.{Fit, kind_length, numbers_in}
 use Rattle.layout.proofs.Laws.{message_back, bytes_back}
-use Rattle.frame.specs.declared.Found.TheVariants.{Frame, Fault}
-use Rattle.frame.specs.declared.Reading.TheVariants.{Whole, Refused}
+use Rattle.frame.specs.Parts.{Frame, Fault}
+use Rattle.frame.specs.Reading.{Whole, Refused}
 use Rattle.frame.specs.Reading.{told_length, told_kind, read_answer, read_offset, read_of}
 use Rattle.frame.specs.Writing.{frame_of, write_answer}
 use Rattle.frame.specs.Parts.{found_of}

@@ -25,7 +25,7 @@ use Rattle.message.proofs.Laws.{fault_passed, kind_known, message_numbers}
 use Rattle.layout.specs.Layout.{Fit, more_of, kind_length, offset_in, bytes_of, numbers_in}
 use Rattle.layout.specs.Parts.{head_length}
 use Rattle.layout.proofs.Laws.{length_least, bytes_length, numbers_back, numbers_whole}
-use Rattle.frame.specs.declared.Reading.TheVariants.{Whole, Refused}
+use Rattle.frame.specs.Reading.{Whole, Refused}
 use Rattle.frame.specs.Reading.{told_length, told_kind, read_answer, read_offset, read_of}
 use Rattle.frame.specs.Reading.{number_of, length_of, refused_at}
 use Rattle.frame.specs.Writing.{frame_of, write_answer, written_of, after_write}

@@ -11,8 +11,8 @@ use Rattle.message.specs.declared.Message.{Message}
 use Rattle.message.specs.Message.{known_kind, is_response, numbers_of, message_of, addressed_to}
 use Rattle.message.specs.Faults.{Field, frame_length, sizes_fit}
 use Rattle.layout.specs.Layout.{Fit, kind_length, place_in, fore_length, numbers_in}
-use Rattle.frame.specs.declared.Reading.{Reading}
-use Rattle.frame.specs.declared.Reading.TheVariants.{Whole, Refused}
+use Rattle.frame.specs.Reading.{Reading}
+use Rattle.frame.specs.Reading.{Whole, Refused}
 use Rattle.frame.specs.Reading.{told_length, told_kind, refusals_with, read_refusals, read_answer}
 use Rattle.frame.specs.Reading.{read_offset, read_with, read_of, number_of, length_of, refused_at}
 use Rattle.frame.specs.Writing.{frame_of, write_answer, written_of, after_write}

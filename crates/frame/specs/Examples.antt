@@ -7,7 +7,7 @@ use Rattle.message.specs.declared.Message.{Message}
 use Rattle.message.specs.declared.Message.TheVariants.{PrepareRequest, ProposeRequest}
 use Rattle.message.specs.Message.{head_with}
 use Rattle.message.specs.Faults.{sizes}
-use Rattle.frame.specs.declared.Reading.TheVariants.{Whole, Refused}
+use Rattle.frame.specs.Reading.{Whole, Refused}
 use Rattle.frame.specs.Reading.{read_of}
 use Rattle.frame.specs.Writing.{frame_of, write_answer, frames_of, answer_to}
 

@@ -1,17 +1,26 @@
 -- What the parts of the code of reading and writing give. Assumes nothing.
 use Rattle.std.specs.Prelude.{ℕ, cond, List, [], ◌∷◌, leb, eqb}
+use Rattle.std.specs.declared.result.Result.{Result}
+use Rattle.base.specs.declared.Fault.{Fault as At}
+use Rattle.base.specs.Answers.{refusal_number}
 use Rattle.base.specs.Refusals.{unless, first_of, done, refused_cell, refused_room}
 use Rattle.message.specs.declared.Sizes.{Sizes}
 use Rattle.message.specs.declared.Numbers.{Numbers}
 use Rattle.message.specs.Message.{message_of}
 use Rattle.message.specs.Faults.{sizes_fit}
 use Rattle.layout.specs.Layout.{kind_length, numbers_in}
-use Rattle.frame.specs.declared.Found.{Found}
-use Rattle.frame.specs.declared.Found.TheVariants.{Frame, Fault}
-use Rattle.frame.specs.declared.Reading.{Reading}
-use Rattle.frame.specs.declared.Reading.TheVariants.{Whole, Refused}
-use Rattle.frame.specs.declared.Written.{Written}
-use Rattle.frame.specs.Reading.{told_kind, read_answer, read_offset}
+use Rattle.frame.specs.Reading.{Reading, Whole, Refused, told_kind, read_answer, read_offset}
+
+-- what is found in lent bytes: a frame's numbers with its length, or the number of the refusal and
+-- its offset
+pub data Found : Type 0 where
+  Frame : Numbers → ℕ → Found
+  Fault : ℕ → ℕ → Found
+
+-- this paper's number and values for each case of the code's result
+abbrev pub found_by : Result (Numbers × ℕ) At → Found
+found_by (Result.Ok r) = Frame r.0 r.1
+found_by (Result.Err e) = Fault (refusal_number e.refusal) e.at
 
 -- what is found under an answer, refused at an offset
 abbrev pub found_with : ℕ → ℕ → Numbers → ℕ → Found
@@ -31,7 +40,3 @@ reading_of (Fault k at) = Refused k at
 unfoldable pub answer_of : Sizes → ℕ → ℕ → ℕ → ℕ
 answer_of z bad total room =
     first_of (unless (sizes_fit z) refused_cell ∷ bad ∷ unless (leb total room) refused_room ∷ [])
-
--- what writing gives where it is refused
-abbrev pub refused_with : ℕ → Written
-refused_with a = record { answer = a; len = 0 }

@@ -1,6 +1,9 @@
 -- What reading gives: a message and its frame's length, or the number of the first refusal that
 -- applies and the offset at which it is found. Assumes nothing.
 use Rattle.std.specs.Prelude.{ℕ, cond, List, [], ◌∷◌, ◌++◌, length, leb, eqb}
+use Rattle.std.specs.declared.result.Result.{Result}
+use Rattle.base.specs.declared.Fault.{Fault}
+use Rattle.base.specs.Answers.{refusal_number}
 use Rattle.base.specs.Refusals.{test, Refusal, refusal, answer_by, place_by}
 use Rattle.base.specs.Refusals.{done, refused_cell, refused_cut, refused_kind}
 use Rattle.wire.specs.Wire.{number_at}
@@ -11,8 +14,17 @@ use Rattle.message.specs.Faults.{sizes_fit, refusals_of}
 use Rattle.message.specs.Faults.{Field, settings, lent_bytes, frame_length, kind_number}
 use Rattle.layout.specs.Layout.{width_of, kind_length, place_in, numbers_in}
 use Rattle.layout.specs.Layout.{length_offset, kind_offset, fore_length, length_refusals}
-use Rattle.frame.specs.declared.Reading.{Reading}
-use Rattle.frame.specs.declared.Reading.TheVariants.{Whole, Refused}
+
+-- what reading gives: a message with its frame's length, or the number of the refusal and the
+-- offset in the lent bytes at which it is found
+pub data Reading : Type 0 where
+  Whole : Message → ℕ → Reading
+  Refused : ℕ → ℕ → Reading
+
+-- this paper's number and values for each case of the code's result
+abbrev pub reading_by : Result (Message × ℕ) Fault → Reading
+reading_by (Result.Ok r) = Whole r.0 r.1
+reading_by (Result.Err e) = Refused (refusal_number e.refusal) e.at
 
 -- the first two fields of lent bytes
 abbrev pub told_length : List ℕ → ℕ

@@ -1,6 +1,9 @@
 -- What writing gives and leaves: to the message's own target, and to a set of receivers. Assumes
 -- nothing.
 use Rattle.std.specs.Prelude.{ℕ, cond, List, [], ◌∷◌, ◌++◌, length, drop, leb, eqb}
+use Rattle.std.specs.declared.result.Result.{Result}
+use Rattle.base.specs.declared.Refusal.{Refusal as Code}
+use Rattle.base.specs.Answers.{refusal_number}
 use Rattle.base.specs.Refusals.{test, Refusal, refusal, answer_by, done, refused_cell, refused_room}
 use Rattle.quorum.specs.Sets.{members}
 use Rattle.message.specs.declared.Sizes.{Sizes}
@@ -9,7 +12,16 @@ use Rattle.message.specs.declared.Message.{Message}
 use Rattle.message.specs.Message.{numbers_of, with_target}
 use Rattle.message.specs.Faults.{sizes_fit, Field, settings, lent_bytes, refusals_of, refusals_to}
 use Rattle.layout.specs.Layout.{bytes_of}
-use Rattle.frame.specs.declared.Written.{Written}
+
+-- what writing gives: the answer's number, and how many bytes were written
+pub record Written : Type 0 where
+  pub answer : ℕ
+  pub len : ℕ
+
+-- this paper's number and length for each case of the code's result
+abbrev pub written_by : Result ℕ Code → Written
+written_by (Result.Ok len) = record { answer = done; len = len }
+written_by (Result.Err k) = record { answer = refusal_number k; len = 0 }
 
 -- 1, then 5, 6, 7 of the message, then 8
 abbrev pub write_refusals : Sizes → List (Refusal Field) → List ℕ → ℕ → List (Refusal Field)

@@ -5,10 +5,9 @@ use Rattle.message.specs.declared.Sizes.{Sizes}
 use Rattle.message.specs.declared.Numbers.{Numbers}
 use Rattle.message.specs.Message.{learn, known_kind, numbers_of, message_of}
 use Rattle.message.specs.Faults.{Field, kind_number, refusals_of, refusals_to}
-use Rattle.frame.specs.declared.Reading.{Reading}
-use Rattle.frame.specs.declared.Reading.TheVariants.{Whole, Refused}
-use Rattle.frame.specs.declared.Written.{Written}
-use Rattle.frame.specs.Writing.{write_refusals, written_with, after_with, frame_of, frames_of}
+use Rattle.frame.specs.Reading.{Reading, Whole, Refused}
+use Rattle.frame.specs.Writing.{Written, write_refusals, written_with, after_with, frame_of}
+use Rattle.frame.specs.Writing.{frames_of}
 
 -- ---- reading
 

@@ -1,5 +1,6 @@
 // The static library for hosts written in C: the functions of `frame_c`, by the names and with the
-// clauses that they have there. include/lease_frame.h declares them.
+// clauses that they have there. include/lease_frame.h declares them. They are written out again: a
+// static library exports the functions of its own crate alone, and is no library for other crates.
 #![tactic(auto)]
 
 ghost use Rattle.std.specs.Prelude.{◌≡◌, length};

@@ -3,12 +3,10 @@
 // answer. Its output is held to the file stdout.
 #![tactic(auto)]
 
-ghost use Rattle.std.specs.Prelude.{◌≤◌};
-
-use base::REFUSED_SHORT;
+use base::Refusal;
 use message::{
-    LEARN, PREPARE_REQUEST, PREPARE_RESPONSE_EMPTY, PREPARE_RESPONSE_LEASE, PROPOSE_REQUEST,
-    PROPOSE_RESPONSE, RELEASE_REQUEST, Sizes,
+    LEARN, PREPARE_REQUEST, PREPARE_RESPONSE_LEASE, PROPOSE_REQUEST, PROPOSE_RESPONSE,
+    RELEASE_REQUEST, Sizes,
 };
 use std::io;
 
@@ -27,215 +25,158 @@ const ZERO: [u8; 24] = [
 ];
 
 fn worked(rt: &impl Print) -> io::Result<()> {
-    show::reading(rt, b"P11", frame::read(sample::sizes(), &P11))?;
-    show::reading(rt, b"P12", frame::read(sample::sizes(), &P12))?;
-    show::reading(rt, b"zero tick and end", frame::read(Sizes { n: 1 }, &ZERO))
+    show::reading(rt, "P11", frame::read(sample::sizes(), &P11))?;
+    show::reading(rt, "P12", frame::read(sample::sizes(), &P12))?;
+    show::reading(rt, "zero tick and end", frame::read(Sizes { n: 1 }, &ZERO))
 }
 
-// The frame of a kind's sample, and what is read from it.
-fn one_kind(rt: &impl Print, kind: u16) -> io::Result<()> {
-    let mut out = [0u8; 33];
-    let w = frame::write(sample::sizes(), sample::message_of_kind(kind), &mut out);
-    show::frame(rt, &out, w.len)?;
-    show::reading(rt, b"  reads", frame::read(sample::sizes(), &out))
-}
-
+// The frame of each kind's sample, and what is read from it.
 fn kinds(rt: &impl Print) -> io::Result<()> {
-    one_kind(rt, PREPARE_REQUEST)?;
-    one_kind(rt, PREPARE_RESPONSE_EMPTY)?;
-    one_kind(rt, PREPARE_RESPONSE_LEASE)?;
-    one_kind(rt, PROPOSE_REQUEST)?;
-    one_kind(rt, PROPOSE_RESPONSE)?;
-    one_kind(rt, LEARN)?;
-    one_kind(rt, RELEASE_REQUEST)
-}
-
-fn read_sixteen(rt: &impl Print, label: &[u8], bytes: &[u8; 16]) -> io::Result<()> {
-    show::reading(rt, label, frame::read(sample::sizes(), bytes))
+    for kind in PREPARE_REQUEST..=RELEASE_REQUEST {
+        let mut out = [0; 33];
+        let written = frame::write(sample::sizes(), sample::message_of_kind(kind), &mut out);
+        show::frame(rt, out.get(..written.unwrap_or(0)).unwrap_or(&out))?;
+        show::reading(rt, "  reads", frame::read(sample::sizes(), &out))?;
+    }
+    Ok(())
 }
 
 // What is read once one byte of P11 is another.
-fn damaged(rt: &impl Print, label: &[u8], at: usize, byte: u8) -> io::Result<()> {
+fn damaged(rt: &impl Print, label: &str, at: usize, byte: u8) -> io::Result<()> {
     let mut bytes = P11;
-    if at < 16 {
-        bytes[at] = byte;
+    if let Some(b) = bytes.get_mut(at) {
+        *b = byte;
     }
-    read_sixteen(rt, label, &bytes)
+    show::reading(rt, label, frame::read(sample::sizes(), &bytes))
 }
 
-fn refused_readings(rt: &impl Print) -> io::Result<()> {
-    show::reading(rt, b"read 1 cell", frame::read(Sizes { n: 10 }, &P11))?;
-    show::reading(
-        rt,
-        b"read 2 cut, under 4 bytes",
-        frame::read(sample::sizes(), &[15, 0, 1]),
-    )?;
-    damaged(rt, b"read 3 kind", 2, 8)?;
-    damaged(rt, b"read 17 short length", 0, 14)?;
-    damaged(rt, b"read 4 length", 0, 16)?;
-    show::reading(
-        rt,
-        b"read 2 cut",
-        frame::read(sample::sizes(), &[15, 0, 1, 0, 0, 2, 105]),
-    )?;
-    damaged(rt, b"read 5 host", 5, 3)?;
-    damaged(rt, b"read 6 tick", 13, 1)?;
-    damaged(rt, b"read 7 party", 14, 1)
-}
-
-fn read_longest(rt: &impl Print, label: &[u8], bytes: &[u8; 33]) -> io::Result<()> {
+// What is read from the first bytes of P11.
+fn cut(rt: &impl Print, label: &str, len: usize) -> io::Result<()> {
+    let bytes = P11.get(..len).unwrap_or(&P11);
     show::reading(rt, label, frame::read(sample::sizes(), bytes))
 }
 
-// What is read once two bytes of a kind's sample are others.
-fn damaged_twice(
-    rt: &impl Print,
-    label: &[u8],
-    kind: u16,
-    first: usize,
-    second: usize,
-    byte: u8,
-) -> io::Result<()> {
-    let mut bytes = sample_frame(kind);
-    if first < 33 {
-        bytes[first] = byte;
-    }
-    if second < 33 {
-        bytes[second] = byte;
-    }
-    read_longest(rt, label, &bytes)
+// Each by itself: they differ in what is damaged or cut, and a table would tell those apart.
+fn refused_readings(rt: &impl Print) -> io::Result<()> {
+    show::reading(rt, "read 1 cell", frame::read(Sizes { n: 10 }, &P11))?;
+    cut(rt, "read 2 cut, under 4 bytes", 3)?;
+    damaged(rt, "read 3 kind", 2, 8)?;
+    damaged(rt, "read 17 short length", 0, 14)?;
+    damaged(rt, "read 4 length", 0, 16)?;
+    cut(rt, "read 2 cut", 7)?;
+    damaged(rt, "read 5 host", 5, 3)?;
+    damaged(rt, "read 6 tick", 13, 1)?;
+    damaged(rt, "read 7 party", 14, 1)
 }
 
-// Where a refusal is found: the first of two fields, and the party of a response.
+// Where a refusal is found, once two bytes of a kind's sample are others: the first of two fields,
+// and the party of a response.
 fn refused_offsets(rt: &impl Print) -> io::Result<()> {
-    damaged_twice(rt, b"target and owner", PROPOSE_REQUEST, 5, 15, 9)?;
-    damaged_twice(
-        rt,
-        b"ballot's and accepted host",
-        PREPARE_RESPONSE_LEASE,
-        14,
-        23,
-        9,
-    )?;
-    damaged_twice(
-        rt,
-        b"accepted host and owner",
-        PREPARE_RESPONSE_LEASE,
-        23,
-        24,
-        9,
-    )?;
-    damaged_twice(
-        rt,
-        b"accepted tick and end",
-        PREPARE_RESPONSE_LEASE,
-        22,
-        32,
-        9,
-    )?;
-    damaged_twice(rt, b"owner and end", LEARN, 15, 23, 9)?;
-    damaged_twice(rt, b"holder's end", LEARN, 23, 23, 9)?;
-    damaged_twice(rt, b"a response's party", PROPOSE_RESPONSE, 5, 5, 1)
+    for (label, kind, places, byte) in [
+        ("target and owner", PROPOSE_REQUEST, [5, 15], 9),
+        (
+            "ballot's and accepted host",
+            PREPARE_RESPONSE_LEASE,
+            [14, 23],
+            9,
+        ),
+        (
+            "accepted host and owner",
+            PREPARE_RESPONSE_LEASE,
+            [23, 24],
+            9,
+        ),
+        ("accepted tick and end", PREPARE_RESPONSE_LEASE, [22, 32], 9),
+        ("owner and end", LEARN, [15, 23], 9),
+        ("holder's end", LEARN, [23, 23], 9),
+        ("a response's party", PROPOSE_RESPONSE, [5, 5], 1),
+    ] {
+        let mut bytes = sample_frame(kind);
+        for at in places {
+            if let Some(b) = bytes.get_mut(at) {
+                *b = byte;
+            }
+        }
+        show::reading(rt, label, frame::read(sample::sizes(), &bytes))?;
+    }
+    Ok(())
 }
 
-// What writing P11's message, with another sender and tick, into 15 bytes answers.
-fn written(rt: &impl Print, label: &[u8], n: u8, sender: u8, tick: u64) -> io::Result<()> {
-    let mut out = [0u8; 15];
-    let w = frame::write(Sizes { n }, sample::request(sender, tick), &mut out);
-    show::written(rt, label, w.answer, w.len)
-}
-
-fn no_room(rt: &impl Print) -> io::Result<()> {
-    let mut out = [0u8; 14];
-    let w = frame::write(sample::sizes(), sample::request(0, 105), &mut out);
-    show::written(rt, b"write 8 room", w.answer, w.len)
-}
-
+// What writing P11's message, in a cell of n, with another sender and tick, into so many bytes
+// answers.
 fn refused_writings(rt: &impl Print) -> io::Result<()> {
-    written(rt, b"write 1 cell", 0, 0, 105)?;
-    written(rt, b"write 5 host", 3, 3, 105)?;
-    written(rt, b"write 6 tick", 3, 0, message::LAST_TICK + 1)?;
-    written(rt, b"write 7 party", 3, 1, 105)?;
-    no_room(rt)?;
-    written(rt, b"write 0 done", 3, 0, message::LAST_TICK)
+    for (label, n, sender, tick, room) in [
+        ("write 1 cell", 0, 0, 105, 15),
+        ("write 5 host", 3, 3, 105, 15),
+        ("write 6 tick", 3, 0, message::LAST_TICK + 1, 15),
+        ("write 7 party", 3, 1, 105, 15),
+        ("write 8 room", 3, 0, 105, 14),
+        ("write 0 done", 3, 0, message::LAST_TICK, 15),
+    ] {
+        let mut out = [0; 15];
+        let written = frame::write(Sizes { n }, sample::request(sender, tick), &mut out[..room]);
+        show::written(rt, label, written)?;
+    }
+    Ok(())
 }
 
 // What writing a kind's sample to a set of receivers answers.
-fn to_set(rt: &impl Print, label: &[u8], kind: u16, set: u16) -> io::Result<()> {
-    let mut out = [0u8; 99];
-    let w = frame::write_to(
-        sample::sizes(),
-        sample::message_of_kind(kind),
-        set,
-        &mut out,
-    );
-    show::written(rt, label, w.answer, w.len)
-}
-
 fn sets(rt: &impl Print) -> io::Result<()> {
-    to_set(rt, b"set of all three", LEARN, 7)?;
-    to_set(rt, b"set of none", LEARN, 0)?;
-    to_set(rt, b"set 5 host", LEARN, 8)?;
-    to_set(rt, b"set 7 party", PREPARE_RESPONSE_LEASE, 2)?;
-    to_set(rt, b"set of the ballot's host", PREPARE_RESPONSE_LEASE, 1)
+    for (label, kind, set) in [
+        ("set of all three", LEARN, 7),
+        ("set of none", LEARN, 0),
+        ("set 5 host", LEARN, 8),
+        ("set 7 party", PREPARE_RESPONSE_LEASE, 2),
+        ("set of the ballot's host", PREPARE_RESPONSE_LEASE, 1),
+    ] {
+        let mut out = [0; 99];
+        let m = sample::message_of_kind(kind);
+        show::written(
+            rt,
+            label,
+            frame::write_to(sample::sizes(), m, set, &mut out),
+        )?;
+    }
+    Ok(())
 }
 
 // What a frame is answered with another length field.
-fn answer_with(bytes: [u8; 33], length: u64) -> u8 {
+fn answer_with(bytes: [u8; 33], length: u16) -> u8 {
     let mut frame = bytes;
-    frame[0] = (length % 256) as u8;
-    frame[1] = (length / 256 % 256) as u8;
-    frame::read(sample::sizes(), &frame).number()
-}
-
-fn one_if(on: bool) -> u64
-    ensures { result ≤ 1 }
-{
-    if on { 1 } else { 0 }
+    let [low, high] = length.to_le_bytes();
+    frame[0] = low;
+    frame[1] = high;
+    base::answer_of(frame::read(sample::sizes(), &frame).map_err(|fault| fault.refusal))
 }
 
 // How many of the 65,536 values of a frame's length field are answered so.
-fn lengths(bytes: [u8; 33], answer: u8) -> u64 {
-    let mut count: u64 = 0;
-    let mut i: u64 = 0;
-    while i < 65536 {
-        count = count + one_if(answer_with(bytes, i) == answer);
-        i = i + 1;
-    }
-    count
-}
-
-// An answer and how often it came.
-fn lengths_answered(rt: &impl Print, bytes: [u8; 33], answer: u8) -> io::Result<()> {
-    show::count_of(rt, answer, lengths(bytes, answer))
+fn lengths(bytes: [u8; 33], answer: u8) -> usize {
+    (0..=u16::MAX)
+        .filter(|length| answer_with(bytes, *length) == answer)
+        .count()
 }
 
 // The frame of a kind's sample, in 33 bytes.
 fn sample_frame(kind: u16) -> [u8; 33] {
-    let mut out = [0u8; 33];
-    frame::write(sample::sizes(), sample::message_of_kind(kind), &mut out);
+    let mut out = [0; 33];
+    let _ = frame::write(sample::sizes(), sample::message_of_kind(kind), &mut out);
     out
 }
 
-fn lengths_of_kind(rt: &impl Print, kind: u16) -> io::Result<()> {
-    let bytes = sample_frame(kind);
-    show::lengths_head(rt, kind)?;
-    let mut answer: u8 = 0;
-    while answer <= REFUSED_SHORT {
-        lengths_answered(rt, bytes, answer)?;
-        answer = answer + 1;
-    }
-    print::line_end(rt)
-}
-
+// For each kind the answers over all values of the length field, and how often each came.
 fn all_lengths(rt: &impl Print) -> io::Result<()> {
-    lengths_of_kind(rt, PREPARE_REQUEST)?;
-    lengths_of_kind(rt, PREPARE_RESPONSE_EMPTY)?;
-    lengths_of_kind(rt, PREPARE_RESPONSE_LEASE)?;
-    lengths_of_kind(rt, PROPOSE_REQUEST)?;
-    lengths_of_kind(rt, PROPOSE_RESPONSE)?;
-    lengths_of_kind(rt, LEARN)?;
-    lengths_of_kind(rt, RELEASE_REQUEST)
+    for kind in PREPARE_REQUEST..=RELEASE_REQUEST {
+        let bytes = sample_frame(kind);
+        print!(rt; "length field of kind {kind}, answers:")?;
+        for answer in 0..=Refusal::Short.number() {
+            let count = lengths(bytes, answer);
+            if 0 < count {
+                print!(rt; " {answer} x {count}")?;
+            }
+        }
+        println!(rt; "")?;
+    }
+    Ok(())
 }
 
 fn main(rt: HostRuntime) -> io::Result<()> {

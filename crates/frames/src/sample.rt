@@ -1,5 +1,5 @@
 // Sample messages of a cell of three hosts.
-use message::{Ballot, KeepersEnd, Message, Sizes};
+use message::{Ballot, Head, HoldersEnd, KeepersEnd, Message, Numbers, Sizes};
 
 // The cell that the samples are of.
 pub fn sizes() -> Sizes {
@@ -8,17 +8,29 @@ pub fn sizes() -> Sizes {
 
 // A prepare request to host 2 with a ballot of host 0.
 pub fn request(sender: u8, tick: u64) -> Message {
-    Message::PrepareRequest(message::head_with(sender, 2, Ballot { tick, host: 0 }))
+    Message::PrepareRequest(Head {
+        sender,
+        target: 2,
+        ballot: Ballot { tick, host: 0 },
+    })
 }
 
 // A message of a kind, between hosts 0 and 2, of host 0's ballot at 105; the spread of clocks is 5.
 pub fn message_of_kind(kind: u16) -> Message {
-    let response = message::is_response(kind);
-    let sender: u8 = if response { 2 } else { 0 };
-    let target: u8 = if response { 0 } else { 2 };
-    let head = message::head_with(sender, target, Ballot { tick: 105, host: 0 });
-    let accepted = Ballot { tick: 104, host: 1 };
+    let (sender, target) = if message::is_response(kind) {
+        (2, 0)
+    } else {
+        (0, 2)
+    };
     let keepers = KeepersEnd(160);
-    let holders = keepers.to_holders(5);
-    message::message_of(message::numbers_with(kind, head, accepted, 1, keepers, holders))
+    Message::from(Numbers {
+        kind,
+        sender,
+        target,
+        ballot: Ballot { tick: 105, host: 0 },
+        accepted: Ballot { tick: 104, host: 1 },
+        owner: 1,
+        keepers,
+        holders: keepers.to_holders(5),
+    })
 }

@@ -1,97 +1,62 @@
 // Lines of the program's output.
-use frame::Reading;
-use message::Ballot;
-use std::io;
+use base::{Fault, Refusal};
+use message::{Message, Numbers};
+use std::{fmt, io};
 
-fn ballot(rt: &impl Print, name: &[u8], b: Ballot) -> io::Result<()> {
-    print::word(rt, name)?;
-    print::number(rt, b.tick)?;
-    print::number(rt, b.host as u64)
+// A message's numbers in a line.
+#[derive(Clone, Copy)]
+struct Line(Numbers);
+
+impl fmt::Display for Line {
+    fn fmt<W: fmt::Write>(&self, f: &mut fmt::Formatter<W>) -> fmt::Result {
+        let Numbers {
+            kind,
+            sender,
+            target,
+            ballot,
+            accepted,
+            owner,
+            keepers,
+            holders,
+        } = self.0;
+        write!(f, "kind {kind} from {sender} to {target}")?;
+        write!(f, " ballot {} {}", ballot.tick, ballot.host)?;
+        write!(f, " accepted {} {}", accepted.tick, accepted.host)?;
+        write!(f, " owner {owner} ends {} {}", keepers.0, holders.0)
+    }
 }
 
 // A label, the answer's number and the frame's length; of a message that was read, its numbers, and
 // of a refusal its offset.
-pub fn reading(rt: &impl Print, label: &[u8], r: Reading) -> io::Result<()> {
-    print::word(rt, label)?;
-    print::word(rt, b": answer")?;
-    print::number(rt, r.number() as u64)?;
-    print::word(rt, b" length")?;
-    print::number(rt, r.frame_length() as u64)?;
-    match r {
-        Reading::Whole(m, _) => numbers(rt, message::numbers_of(m)),
-        Reading::Refused(_, _) => offset(rt, r.offset()),
+pub fn reading(
+    rt: &impl Print,
+    label: &str,
+    read: Result<(Message, usize), Fault>,
+) -> io::Result<()> {
+    match read {
+        Ok((m, len)) => {
+            let line = Line(Numbers::from(m));
+            println!(rt; "{label}: answer 0 length {len} {line}")
+        }
+        Err(Fault { refusal, at }) => {
+            let answer = refusal.number();
+            println!(rt; "{label}: answer {answer} length 0 offset {at}")
+        }
     }
-}
-
-fn offset(rt: &impl Print, at: usize) -> io::Result<()> {
-    print::word(rt, b" offset")?;
-    print::number(rt, at as u64)?;
-    print::line_end(rt)
-}
-
-fn numbers(rt: &impl Print, f: message::Numbers) -> io::Result<()> {
-    print::word(rt, b" kind")?;
-    print::number(rt, f.kind as u64)?;
-    print::word(rt, b" from")?;
-    print::number(rt, f.sender as u64)?;
-    print::word(rt, b" to")?;
-    print::number(rt, f.target as u64)?;
-    ballot(rt, b" ballot", f.ballot)?;
-    ballot(rt, b" accepted", f.accepted)?;
-    print::word(rt, b" owner")?;
-    print::number(rt, f.owner as u64)?;
-    print::word(rt, b" ends")?;
-    print::number(rt, f.keepers.0)?;
-    print::number(rt, f.holders.0)?;
-    print::line_end(rt)
 }
 
 // What a writing answered, and how many bytes it wrote.
-pub fn written(rt: &impl Print, label: &[u8], answer: u8, len: usize) -> io::Result<()> {
-    print::word(rt, label)?;
-    print::word(rt, b": answer")?;
-    print::number(rt, answer as u64)?;
-    print::word(rt, b" length")?;
-    print::number(rt, len as u64)?;
-    print::line_end(rt)
+pub fn written(rt: &impl Print, label: &str, written: Result<usize, Refusal>) -> io::Result<()> {
+    let answer = base::answer_of(written);
+    let len = written.unwrap_or(0);
+    println!(rt; "{label}: answer {answer} length {len}")
 }
 
-fn byte(rt: &impl Print, bytes: &[u8], i: usize) -> io::Result<()> {
-    if i < bytes.len() {
-        print::hex_byte(rt, bytes[i])?;
+// The bytes of a frame, in hexadecimal.
+pub fn frame(rt: &impl Print, bytes: &[u8]) -> io::Result<()> {
+    print!(rt; "frame")?;
+    for byte in bytes {
+        print!(rt; " {byte:02x}")?;
     }
-    Ok(())
-}
-
-fn bytes_of(rt: &impl Print, bytes: &[u8], len: usize) -> io::Result<()> {
-    let mut i: usize = 0;
-    while i < len {
-        byte(rt, bytes, i)?;
-        i = i + 1;
-    }
-    Ok(())
-}
-
-// The first bytes of a frame, in hexadecimal.
-pub fn frame(rt: &impl Print, bytes: &[u8], len: usize) -> io::Result<()> {
-    print::word(rt, b"frame")?;
-    bytes_of(rt, bytes, len)?;
-    print::line_end(rt)
-}
-
-// The head of a kind's counts over all values of the length field.
-pub fn lengths_head(rt: &impl Print, kind: u16) -> io::Result<()> {
-    print::word(rt, b"length field of kind")?;
-    print::number(rt, kind as u64)?;
-    print::word(rt, b", answers:")
-}
-
-// An answer and how often it came, unless it never did.
-pub fn count_of(rt: &impl Print, answer: u8, count: u64) -> io::Result<()> {
-    if 0 < count {
-        print::number(rt, answer as u64)?;
-        print::word(rt, b" x")?;
-        print::number(rt, count)?;
-    }
-    Ok(())
+    println!(rt; "")
 }

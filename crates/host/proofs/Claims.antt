@@ -5,7 +5,7 @@ use lib.Dec.{eqb}
 use Rattle.base.specs.Refusals.{done}
 use Rattle.base.proofs.Tests.{by_test}
 use Rattle.host.specs.declared.Host.{Host}
-use Rattle.host.specs.declared.Stepped.{Stepped}
+use Rattle.host.specs.Stepped.{Stepped}
 use Rattle.host.specs.Steps.{refused_with, step_with, start_refusal, start_of, release_refusal}
 use Rattle.host.specs.Steps.{release_of, receive_refusal, receive_of}
 use Rattle.host.specs.Claims.{Stays, Claims}

@@ -17,7 +17,7 @@ use Rattle.state.specs.declared.Settings.{Settings}
 use Rattle.state.specs.declared.Proposing.{Proposing}
 use Rattle.state.specs.declared.Round.{Round}
 use Rattle.host.specs.declared.Host.{Host}
-use Rattle.host.specs.declared.Stepped.{Stepped}
+use Rattle.host.specs.Stepped.{Stepped}
 use Rattle.host.specs.Steps.{quiet_with, holder_of, on_naming, on_chosen, proposing_after}
 use Rattle.host.specs.Steps.{on_counted_vote, on_vote, on_propose_response, on_message, on_delivery}
 use Rattle.host.specs.Steps.{receive_refusal, receive_of}

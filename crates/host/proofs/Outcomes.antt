@@ -1,6 +1,8 @@
 -- The outcomes of a host's step, one for each thing that a start, a release or a message can do to
 -- a host. The tree of a step is walked here, by `outcome`; what holds of every step is then said by
 -- a clause for each outcome. Assumes nothing.
+use Rattle.std.specs.Prelude.{Option, Some, None}
+use Rattle.message.specs.Leases.{Lease, Holder, Proposal, LearnedLease}
 use mathlib.Core.Path.{◌≡◌, refl}
 use mathlib.Core.Bool.{true, false}
 use Prim.Native.Nat.{ℕ}
@@ -9,16 +11,11 @@ use Rattle.base.proofs.Tests.{by_test}
 use Rattle.quorum.specs.Sets.{single_of, everyone_of, others_of}
 use Rattle.message.specs.declared.Head.{Head}
 use Rattle.message.specs.declared.LeaseResponse.{LeaseResponse}
-use Rattle.message.specs.declared.Proposal.{Proposal}
-use Rattle.message.specs.declared.LearnedLease.{LearnedLease}
 use Rattle.message.specs.declared.Message.{Message}
 use Rattle.message.specs.declared.Message.TheVariants.{PrepareRequest, PrepareResponseEmpty}
 use Rattle.message.specs.declared.Message.TheVariants.{PrepareResponseLease, ProposeRequest}
 use Rattle.message.specs.declared.Message.TheVariants.{ProposeResponse, Learn, ReleaseRequest}
 use Rattle.message.specs.Message.{is_same}
-use Rattle.rules.specs.declared.Accepted.{Accepted}
-use Rattle.rules.specs.declared.Promised.{Promised}
-use Rattle.rules.specs.declared.Holder.{Holder}
 use Rattle.rules.specs.Rules.{is_waiting, may_promise, counts_reply, acts_on, may_accept}
 use Rattle.rules.specs.Rules.{after_accept, is_namable, may_learn, named_by, takes_release}
 use Rattle.state.specs.declared.Settings.{Settings}
@@ -26,7 +23,7 @@ use Rattle.state.specs.declared.Asking.{Asking}
 use Rattle.state.specs.declared.Proposing.{Proposing}
 use Rattle.state.specs.declared.Round.{Round}
 use Rattle.host.specs.declared.Host.{Host}
-use Rattle.host.specs.declared.Stepped.{Stepped}
+use Rattle.host.specs.Stepped.{Stepped}
 use Rattle.host.specs.Steps.{quiet_with, sending_with, with_round, with_vote, with_named, head_from}
 use Rattle.host.specs.Steps.{on_start, on_release, response_with, on_prepare_request, asking_after}
 use Rattle.host.specs.Steps.{proposed_value, on_majority, on_counted_reply, on_reply}
@@ -37,10 +34,10 @@ use Rattle.host.specs.Steps.{on_release_request, on_message, on_delivery}
 use Rattle.host.specs.Claims.{Stays, naming_host}
 
 -- the message is a reply with this head that tells of this lease, or of none
-pub data Reply : Message → Head → Accepted → Type 0 where
-  empty : (m : Head) → Reply (PrepareResponseEmpty m) m Accepted.Nothing
+pub data Reply : Message → Head → Option Lease → Type 0 where
+  empty : (m : Head) → Reply (PrepareResponseEmpty m) m None
   lease : (m : LeaseResponse)
-      → Reply (PrepareResponseLease m) m.head (Accepted.One m.accepted)
+      → Reply (PrepareResponseLease m) m.head (Some m.accepted)
 
 -- what a host is handed: a start for so many ticks, a release, or a message
 pub data Cause : Type 0 where
@@ -81,7 +78,7 @@ module _ (s : Settings) (h : Host) where
 -- Known is what is known of that which the host is handed
 module _ (s : Settings) (h : Host) (Known : Cause → Type 0) where
   -- a reply to the ballot that the host asks
-  pub record Heard (a : Asking) (d : Head) (reply : Accepted) : Type 0 where
+  pub record Heard (a : Asking) (d : Head) (reply : Option Lease) : Type 0 where
     pub message : Message
     pub is : Reply message d reply
     pub got : Known (gets message)
@@ -108,15 +105,15 @@ module _ (s : Settings) (h : Host) (Known : Cause → Type 0) where
         (m : Head) → Known (gets (PrepareRequest m)) → is_waiting h.clock h.wait ≡ false
         → may_promise h.state.promised m.ballot ≡ true →
         Outcome
-        (sending_with (with_vote h (Promised.To m.ballot) h.state.accepted)
+        (sending_with (with_vote h (Some m.ballot) h.state.accepted)
         (response_with (head_from h m.ballot) h.state.accepted) (single_of m.ballot.host))
     heard :
-        (a : Asking) (d : Head) (reply : Accepted) → Heard a d reply
+        (a : Asking) (d : Head) (reply : Option Lease) → Heard a d reply
         → acts_on s.n a.replied (asking_after h.clock a d.sender reply).replied ≡ false →
         Outcome
         (quiet_with (with_round h (Round.Asking (asking_after h.clock a d.sender reply))))
     proposed :
-        (a : Asking) (d : Head) (reply : Accepted) → Heard a d reply
+        (a : Asking) (d : Head) (reply : Option Lease) → Heard a d reply
         → acts_on s.n a.replied (asking_after h.clock a d.sender reply).replied ≡ true →
         Outcome
         (sending_with
@@ -149,7 +146,7 @@ module _ (s : Settings) (h : Host) (Known : Cause → Type 0) where
 
   -- ---- every step has one of them
 
-  replied : (m : Message) (d : Head) (reply : Accepted) → Reply m d reply → Known (gets m)
+  replied : (m : Message) (d : Head) (reply : Option Lease) → Reply m d reply → Known (gets m)
       → (r : Round) → h.state.round ≡ r → Outcome (on_prepare_response s h r d reply)
   unfolding on_prepare_response on_reply on_counted_reply on_majority
   replied m d reply i g Round.Idle z = nothing
@@ -200,9 +197,9 @@ module _ (s : Settings) (h : Host) (Known : Cause → Type 0) where
       by_test Outcome (may_promise h.state.promised m.ballot) _ _ (λ t. promised m g w t)
       (λ _. nothing)
   on_message_lem (PrepareResponseEmpty m) g w =
-      replied _ m Accepted.Nothing (empty m) g h.state.round refl
+      replied _ m None (empty m) g h.state.round refl
   on_message_lem (PrepareResponseLease m) g w =
-      replied _ m.head (Accepted.One m.accepted) (lease m) g h.state.round refl
+      replied _ m.head (Some m.accepted) (lease m) g h.state.round refl
   on_message_lem (ProposeRequest m) g w =
       by_test Outcome (may_accept h.state.promised h.clock (lease_of m)) _ _
       (λ t. accepted m g w t) (λ _. nothing)

@@ -1,6 +1,7 @@
 -- What a step that refuses nothing tells of its host and of what it is handed; that a reply of a
 -- host that was counted changes nothing, nor a learn that names its receiver; and that a reply
 -- whose lease has ended counts as empty. Assumes nothing.
+use Rattle.std.specs.Prelude.{Option, Some, None}
 use mathlib.Core.Path.{◌≡◌, refl, sym, ap, ◌∙◌}
 use mathlib.Core.Bool.{Bool, true, false, cond, not}
 use mathlib.Core.List.{[]}
@@ -8,20 +9,18 @@ use Prim.Native.Nat.{ℕ, ◌+◌, ◌≤◌}
 use native.Mathlib.Omega.{arith}
 use lib.Dec.{leb, eqb}
 use borrow.Author.Tests.{leb-true, eqb-true, eqb-false, not-true, eq-eqb}
-use Rattle.base.specs.Refusals.{done, first_of, refused_cell, refused_waiting, refused_duration}
+use Rattle.base.specs.Refusals.{done, refused_cell, refused_waiting, refused_duration}
 use Rattle.base.specs.Refusals.{refused_same_tick, refused_clock, refused_not_holder}
 use Rattle.base.proofs.Tests.{by_test, first_passed, unless_passed}
 use Rattle.quorum.specs.Sets.{is_in}
-use Rattle.message.specs.declared.Lease.{Lease}
+use Rattle.message.specs.Leases.{Lease, LearnedLease}
 use Rattle.message.specs.declared.Head.{Head}
 use Rattle.message.specs.declared.LeaseResponse.{LeaseResponse}
-use Rattle.message.specs.declared.LearnedLease.{LearnedLease}
 use Rattle.message.specs.declared.Message.{Message}
 use Rattle.message.specs.declared.Message.TheVariants.{PrepareResponseEmpty, PrepareResponseLease}
 use Rattle.message.specs.declared.Message.TheVariants.{ProposeResponse, Learn}
 use Rattle.message.specs.Message.{last_tick, is_same, numbers_of}
 use Rattle.message.specs.Faults.{fault_of}
-use Rattle.rules.specs.declared.Accepted.{Accepted}
 use Rattle.rules.specs.Rules.{is_waiting, is_fresh, may_learn, names_itself}
 use Rattle.rules.proofs.Laws as R
 use Rattle.state.specs.declared.Settings.{Settings}
@@ -30,7 +29,7 @@ use Rattle.state.specs.declared.Proposing.{Proposing}
 use Rattle.state.specs.declared.Round.{Round}
 use Rattle.state.specs.StateLimits.{duration_ok, sizes_of}
 use Rattle.host.specs.declared.Host.{Host}
-use Rattle.host.specs.declared.Stepped.{Stepped}
+use Rattle.host.specs.Stepped.{Stepped}
 use Rattle.host.specs.Steps.{host_ok, refused_with, quiet_with, advance_refusal, restart_refusal}
 use Rattle.host.specs.Steps.{start_refusal, release_refusal, asking_after, on_reply}
 use Rattle.host.specs.Steps.{on_prepare_response, on_vote, on_propose_response, on_learn}
@@ -105,11 +104,6 @@ message_in s h m e =
     let p1 = unless_passed (host_ok s h) refused_cell _ refl e in
     (host_in s h p1.0, (first_passed (fault_of (sizes_of s) (numbers_of m)) _ p1.1).0)
 
--- a host within its limits refuses no restart
-pub restart_passed : (s : Settings) (h : Host) → host_ok s h ≡ true → restart_refusal s h ≡ done
-unfolding restart_refusal first_of
-restart_passed s h e = rw e
-
 -- ---- a reply of a host that was counted changes nothing
 
 -- a choice between the same
@@ -117,7 +111,7 @@ same_choice : {A : Type 0} (b : Bool) (x y : A) → x ≡ y → cond b x y ≡ y
 same_choice true x y e = e
 same_choice false x y e = refl
 
-counted_already : (s : Settings) (h : Host) (a : Asking) (m : Head) (reply : Accepted)
+counted_already : (s : Settings) (h : Host) (a : Asking) (m : Head) (reply : Option Lease)
     → is_in a.replied m.sender ≡ true → on_reply s h a m reply ≡ quiet_with h
 unfolding on_reply
 counted_already s h a m reply e =
@@ -147,8 +141,8 @@ pub already_empty : (s : Settings) (h : Host) (a : Asking) (m : Head)
 unfolding on_message on_prepare_response
 already_empty s h a m r e =
     still s h (PrepareResponseEmpty m)
-    (ap (λ (x : Round). on_prepare_response s h x m Accepted.Nothing) r
-    ∙ counted_already s h a m Accepted.Nothing e)
+    (ap (λ (x : Round). on_prepare_response s h x m None) r
+    ∙ counted_already s h a m None e)
 
 pub already_lease : (s : Settings) (h : Host) (a : Asking) (m : LeaseResponse)
     → h.state.round ≡ Round.Asking a → is_in a.replied m.head.sender ≡ true
@@ -157,8 +151,8 @@ pub already_lease : (s : Settings) (h : Host) (a : Asking) (m : LeaseResponse)
 unfolding on_message on_prepare_response
 already_lease s h a m r e =
     still s h (PrepareResponseLease m)
-    (ap (λ (x : Round). on_prepare_response s h x m.head (Accepted.One m.accepted)) r
-    ∙ counted_already s h a m.head (Accepted.One m.accepted) e)
+    (ap (λ (x : Round). on_prepare_response s h x m.head (Some m.accepted)) r
+    ∙ counted_already s h a m.head (Some m.accepted) e)
 
 pub already_vote : (s : Settings) (h : Host) (p : Proposing) (m : Head)
     → h.state.round ≡ Round.Proposing p → is_in p.replied m.sender ≡ true
@@ -171,7 +165,7 @@ already_vote s h p m r e =
 -- ---- a reply whose lease has ended counts as empty
 
 heard_as_empty : (s : Settings) (h : Host) (r : Round) (m : Head) (l : Lease) → l.end.0 ≤ h.clock
-    → on_prepare_response s h r m (Accepted.One l) ≡ on_prepare_response s h r m Accepted.Nothing
+    → on_prepare_response s h r m (Some l) ≡ on_prepare_response s h r m None
 unfolding on_prepare_response on_reply asking_after
 heard_as_empty s h Round.Idle m l e = refl
 heard_as_empty s h (Round.Asking a) m l e = rw (R.ended_as_empty h.clock a.kept l e)

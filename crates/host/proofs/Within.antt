@@ -1,5 +1,7 @@
 -- A step that is done keeps a host within its limits, and writing refuses nothing in what it sends:
 -- by a clause for each outcome. Then what holds of every step, refused or done. Assumes nothing.
+use Rattle.std.specs.Prelude.{Option, Some, None}
+use Rattle.message.specs.Leases.{Lease, Holder}
 use mathlib.Core.Path.{◌≡◌, refl, sym, ◌∙◌}
 use mathlib.Core.Bool.{true}
 use Prim.Native.Nat.{ℕ, ◌+◌, ◌-◌, ◌^◌, ◌≤◌, ◌<◌}
@@ -20,10 +22,6 @@ use Rattle.message.specs.Message.{last_tick, prepare_request, release_request, i
 use Rattle.message.specs.Message.{numbers_of}
 use Rattle.message.specs.Faults.{fault_of, fault_to}
 use Rattle.message.proofs.Laws.{fault_passed}
-use Rattle.rules.specs.declared.Accepted.{Accepted}
-use Rattle.rules.specs.declared.Promised.{Promised}
-use Rattle.rules.specs.declared.LastBallot.{LastBallot}
-use Rattle.rules.specs.declared.Named.{Named}
 use Rattle.rules.specs.Rules.{wait_end, ballot_at, own_end}
 use Rattle.rules.proofs.Laws as R
 use Rattle.state.specs.declared.Settings.{Settings}
@@ -41,7 +39,7 @@ use Rattle.state.proofs.Blank.{blank_fits}
 use Rattle.state.proofs.RulesKeep.{aged_in, kept_reply, kept_replied, value_in_lem, kept_naming}
 use Rattle.state.proofs.RulesKeep.{own_last, kept_lease, kept_holder}
 use Rattle.host.specs.declared.Host.{Host}
-use Rattle.host.specs.declared.Stepped.{Stepped}
+use Rattle.host.specs.Stepped.{Stepped}
 use Rattle.host.specs.Steps.{last_wait, host_ok, refused_with, quiet_with, sending_with, step_with}
 use Rattle.host.specs.Steps.{with_state, with_round, with_vote, with_named, advance_refusal}
 use Rattle.host.specs.Steps.{advanced_host, advance_of, restart_refusal, restarted_host}
@@ -96,14 +94,14 @@ kept_round s h r i e =
       named = j.named;
     })
 
-kept_vote : (s : Settings) (h : Host) (p : Promised) (a : Accepted) → HostIn s h
+kept_vote : (s : Settings) (h : Host) (p : Option Ballot) (a : Option Lease) → HostIn s h
     → promised_ok s.n p ≡ true → accepted_ok s.n a ≡ true → host_ok s (with_vote h p a) ≡ true
 kept_vote s h p a i e f =
     let j = state_in s h.number h.state i.state in
     kept_state s h _ i
     (record { promised = e; accepted = f; last = j.last; round = j.round; named = j.named })
 
-kept_named : (s : Settings) (h : Host) (r : Round) (m : Named) → HostIn s h
+kept_named : (s : Settings) (h : Host) (r : Round) (m : Option Holder) → HostIn s h
     → round_ok s h.number r ≡ true → named_ok s.n m ≡ true → host_ok s (with_named h r m) ≡ true
 kept_named s h r m i e f =
     let j = state_in s h.number h.state i.state in
@@ -175,19 +173,19 @@ fine_restart s h i =
 nobody_below : (n : ℕ) → is_below 0 n ≡ true
 nobody_below n = lt-ltb 0 (2 ^ n) (pow_pos n)
 
-nothing_ok : (n : ℕ) → accepted_ok n Accepted.Nothing ≡ true
+nothing_ok : (n : ℕ) → accepted_ok n None ≡ true
 unfolding accepted_ok
 nothing_ok n = refl
 
-last_ok_lem : (t : ℕ) → t ≤ last_tick → last_ok (LastBallot.At t) ≡ true
+last_ok_lem : (t : ℕ) → t ≤ last_tick → last_ok (Some t) ≡ true
 unfolding last_ok
 last_ok_lem t b = le-leb t last_tick b
 
-promised_ok_lem : (n : ℕ) (b : Ballot) → BallotIn n b → promised_ok n (Promised.To b) ≡ true
+promised_ok_lem : (n : ℕ) (b : Ballot) → BallotIn n b → promised_ok n (Some b) ≡ true
 unfolding promised_ok
 promised_ok_lem n b i = out_ballot n b i
 
-nobody_ok : (n : ℕ) → named_ok n Named.Nobody ≡ true
+nobody_ok : (n : ℕ) → named_ok n None ≡ true
 unfolding named_ok
 nobody_ok n = refl
 
@@ -198,7 +196,7 @@ Passes s h lets_go = release_refusal s h ≡ done
 Passes s h (gets m) = fault_of (sizes_of s) (numbers_of m) ≡ done
 
 -- a reply in which nothing is refused
-pub reply_in : (s : Settings) {m : Message} {d : Head} {a : Accepted} → Reply m d a
+pub reply_in : (s : Settings) {m : Message} {d : Head} {a : Option Lease} → Reply m d a
     → fault_of (sizes_of s) (numbers_of m) ≡ done → (d.sender < s.n) × (accepted_ok s.n a ≡ true)
 unfolding numbers_of accepted_ok
 reply_in s (empty d) f =
@@ -229,7 +227,7 @@ module _ (s : Settings) (h : Host) (i : HostIn s h) where
   unfolding round_ok
   proposing_held p z = proposing_in s h.number p (rw z at held.round)
 
-  pub counted_in : (a : Asking) (d : Head) (reply : Accepted) → h.state.round ≡ Round.Asking a
+  pub counted_in : (a : Asking) (d : Head) (reply : Option Lease) → h.state.round ≡ Round.Asking a
       → d.sender < s.n → accepted_ok s.n reply ≡ true
       → AskingIn s h.number (asking_after h.clock a d.sender reply)
   unfolding asking_after
@@ -254,7 +252,7 @@ module _ (s : Settings) (h : Host) (i : HostIn s h) where
         replied = kept_replied s.n p.replied d.sender j.replied b;
       }
 
-  heard_in : (a : Asking) (d : Head) (reply : Accepted) → Heard s h (Passes s h) a d reply
+  heard_in : (a : Asking) (d : Head) (reply : Option Lease) → Heard s h (Passes s h) a d reply
       → AskingIn s h.number (asking_after h.clock a d.sender reply)
   heard_in a d reply x =
       let r = reply_in s x.is x.got in counted_in a d reply x.round r.0 r.1
@@ -290,7 +288,7 @@ module _ (s : Settings) (h : Host) (i : HostIn s h) where
         ballot = ballot_at h.clock h.number;
         duration = d;
         replied = 0;
-        kept = Accepted.Nothing;
+        kept = None;
       }) i.number
       (record {
         host = refl;

@@ -1,4 +1,6 @@
 -- Writing refuses nothing in a message that a host within its limits sends. Assumes nothing.
+use Rattle.std.specs.Prelude.{Option, Some, None}
+use Rattle.message.specs.Leases.{Lease, Holder}
 use mathlib.Core.Path.{◌≡◌, refl, sym}
 use mathlib.Core.Bool.{Bool, true, false, ◌||◌}
 use Prim.Native.Nat.{ℕ, ◌^◌, ◌≤◌, ◌<◌}
@@ -22,16 +24,13 @@ use Rattle.message.specs.Message.{is_response, no_ballot, no_keepers, no_holders
 use Rattle.message.specs.Message.{numbers_of, addressed_to}
 use Rattle.message.specs.Faults.{party_fits_to, fault_of, fault_to}
 use Rattle.message.proofs.Laws.{passing_to, fault_each, numbers_to}
-use Rattle.rules.specs.declared.Accepted.{Accepted}
-use Rattle.rules.specs.declared.Holder.{Holder}
 use Rattle.rules.specs.declared.Value.{Value}
 use Rattle.state.specs.declared.Settings.{Settings}
 use Rattle.state.specs.StateLimits.{accepted_ok, sizes_of}
 use Rattle.state.proofs.StateLimits.{BallotIn, LeaseIn, accepted_in}
 use Rattle.state.proofs.RulesKeep.{ValueIn}
 use Rattle.host.specs.declared.Host.{Host}
-use Rattle.host.specs.declared.Sent.{Sent}
-use Rattle.host.specs.declared.Stepped.{Stepped}
+use Rattle.host.specs.Stepped.{Stepped}
 use Rattle.host.specs.Steps.{head_from, response_with}
 use Rattle.host.specs.Claims.{writes, Writable}
 use Rattle.host.proofs.HostLimits.{HostIn}
@@ -44,7 +43,7 @@ or_right false b q = q
 
 -- what writing to a set accepts it accepts for each host of the set
 pub writable_each : (s : Settings) (step : Stepped) (m : Message) (h : ℕ) → Writable s step
-    → step.sent ≡ Sent.One m → Member s.n step.receivers h
+    → step.sent ≡ Some m → Member s.n step.receivers h
     → fault_of (sizes_of s) (numbers_of (addressed_to m h)) ≡ 0
 unfolding writes
 writable_each s step m h w e i =
@@ -109,15 +108,15 @@ writes_request k r s h b i j e =
     (rw r (eq-eqb h.number b.host (sym e)))
 
 -- a reply to a ballot's host, empty or with the accepted lease
-pub writes_response : (s : Settings) (h : Host) (b : Ballot) (a : Accepted) → HostIn s h
+pub writes_response : (s : Settings) (h : Host) (b : Ballot) (a : Option Lease) → HostIn s h
     → BallotIn s.n b → accepted_ok s.n a ≡ true
     → fault_to (sizes_of s) (numbers_of (response_with (head_from h b) a)) (single_of b.host) ≡ 0
 unfolding response_with numbers_of is_response party_fits_to
-writes_response s h b Accepted.Nothing i j e =
+writes_response s h b None i j e =
     written (sizes_of s) prepare_response_empty (head_from h b) no_ballot 0 no_keepers no_holders
     (single_of b.host) i.number j (no_lease_lem s h i) (omega arith)
     (single_below s.n b.host j.host) (only_single b.host)
-writes_response s h b (Accepted.One l) i j e =
+writes_response s h b (Some l) i j e =
     written (sizes_of s) prepare_response_lease (head_from h b) l.ballot l.owner l.end
     no_holders (single_of b.host) i.number j (accepted_in s.n l e) (omega arith)
     (single_below s.n b.host j.host) (only_single b.host)

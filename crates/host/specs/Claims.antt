@@ -1,12 +1,12 @@
 -- What is claimed of the steps of one host, in one place; proofs/Claims.antt proves it. Assumes
 -- nothing.
-use Rattle.std.specs.Prelude.{ℕ, ◌≤◌, ◌≡◌, Bool, true, false, not, [], ◌∷◌, eqb}
+use Rattle.std.specs.Prelude.{ℕ, ◌≤◌, ◌≡◌, Bool, true, false, not, [], ◌∷◌, eqb, Option, Some, None}
 use Rattle.base.specs.Refusals.{done}
 use Rattle.base.specs.Lists.{all_of}
 use Rattle.quorum.specs.Sets.{is_in, with_host, Member}
 use Rattle.message.specs.declared.Head.{Head}
 use Rattle.message.specs.declared.LeaseResponse.{LeaseResponse}
-use Rattle.message.specs.declared.LearnedLease.{LearnedLease}
+use Rattle.message.specs.Leases.{LearnedLease}
 use Rattle.message.specs.declared.Message.{Message}
 use Rattle.message.specs.declared.Message.TheVariants.{PrepareRequest, PrepareResponseEmpty}
 use Rattle.message.specs.declared.Message.TheVariants.{PrepareResponseLease, ProposeRequest}
@@ -20,8 +20,7 @@ use Rattle.state.specs.declared.Proposing.{Proposing}
 use Rattle.state.specs.declared.Round.{Round}
 use Rattle.state.specs.StateLimits.{sizes_of}
 use Rattle.host.specs.declared.Host.{Host}
-use Rattle.host.specs.declared.Sent.{Sent}
-use Rattle.host.specs.declared.Stepped.{Stepped}
+use Rattle.host.specs.Stepped.{Stepped}
 use Rattle.host.specs.Steps.{host_ok, refused_with, quiet_with, with_named}
 use Rattle.host.specs.Steps.{advance_refusal, advanced_host, advance_of}
 use Rattle.host.specs.Steps.{restart_refusal, restarted_host, restart_of}
@@ -32,9 +31,9 @@ use Rattle.host.specs.Steps.{on_delivery, receive_refusal, receive_of}
 -- ---- every step
 
 -- writing to its receivers refuses nothing in what a step sends, if it sends anything
-unfoldable pub writes : Settings → Sent → ℕ → Type 0
-writes s Sent.Nothing set = Unit
-writes s (Sent.One m) set = fault_to (sizes_of s) (numbers_of m) set ≡ done
+unfoldable pub writes : Settings → Option Message → ℕ → Type 0
+writes s None set = Unit
+writes s (Some m) set = fault_to (sizes_of s) (numbers_of m) set ≡ done
 
 abbrev pub Writable : Settings → Stepped → Type 0
 Writable s step = writes s step.sent step.receivers
@@ -110,7 +109,7 @@ pub record Claims : Type 0 where
       → Lawful s h (receive_refusal s h m) (on_delivery s h m) (receive_of s h m)
   -- what a step sends is what writing accepts for each of its receivers
   pub each_writable : (s : Settings) (step : Stepped) (m : Message) (h : ℕ)
-      → Writable s step → step.sent ≡ Sent.One m → Member s.n step.receivers h
+      → Writable s step → step.sent ≡ Some m → Member s.n step.receivers h
       → fault_of (sizes_of s) (numbers_of (addressed_to m h)) ≡ done
   pub start_stays : (s : Settings) (h : Host) (d : ℕ) → Stays h (start_of s h d)
   pub release_stays : (s : Settings) (h : Host) → Stays h (release_of s h)

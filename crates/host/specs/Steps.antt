@@ -1,6 +1,7 @@
 -- The steps of one host, in document 01's order, with document 02's changes: what is refused and
 -- what is done, apart. Assumes nothing.
 use Rattle.std.specs.Prelude.{ℕ, ◌+◌, ◌^◌, Bool, cond, not, [], ◌∷◌, ltb, leb, eqb}
+use Rattle.std.specs.Prelude.{Option, Some, None}
 use Rattle.base.specs.Refusals.{done, unless, first_of, refused_cell, refused_party}
 use Rattle.base.specs.Refusals.{refused_waiting}
 use Rattle.base.specs.Refusals.{refused_same_tick, refused_duration, refused_clock}
@@ -8,21 +9,14 @@ use Rattle.base.specs.Refusals.{refused_not_holder}
 use Rattle.base.specs.Lists.{all_of}
 use Rattle.quorum.specs.Sets.{single_of, with_host, everyone_of, others_of}
 use Rattle.message.specs.declared.Ballot.{Ballot}
-use Rattle.message.specs.declared.Lease.{Lease}
+use Rattle.message.specs.Leases.{Lease, Holder, Proposal, LearnedLease}
 use Rattle.message.specs.declared.Head.{Head}
-use Rattle.message.specs.declared.Proposal.{Proposal}
-use Rattle.message.specs.declared.LearnedLease.{LearnedLease}
 use Rattle.message.specs.declared.Message.{Message}
 use Rattle.message.specs.declared.Message.TheVariants.{PrepareRequest, PrepareResponseEmpty}
 use Rattle.message.specs.declared.Message.TheVariants.{PrepareResponseLease, ProposeRequest}
 use Rattle.message.specs.declared.Message.TheVariants.{ProposeResponse, Learn, ReleaseRequest}
 use Rattle.message.specs.Message.{last_tick, is_same, to_holders, numbers_of, head_with, target_of}
 use Rattle.message.specs.Faults.{fault_of}
-use Rattle.rules.specs.declared.Accepted.{Accepted}
-use Rattle.rules.specs.declared.Promised.{Promised}
-use Rattle.rules.specs.declared.LastBallot.{LastBallot}
-use Rattle.rules.specs.declared.Named.{Named}
-use Rattle.rules.specs.declared.Holder.{Holder}
 use Rattle.rules.specs.declared.Value.{Value}
 use Rattle.rules.specs.Rules.{is_waiting, wait_end, ballot_at, is_fresh, may_promise, counts_reply}
 use Rattle.rules.specs.Rules.{kept_after, acts_on, own_end, value_to_propose, may_accept}
@@ -38,8 +32,7 @@ use Rattle.state.specs.Ageing.{aged_at}
 use Rattle.state.specs.Blank.{blank_state}
 use Rattle.state.specs.Releasing.{released_at, freed_by}
 use Rattle.host.specs.declared.Host.{Host}
-use Rattle.host.specs.declared.Sent.{Sent}
-use Rattle.host.specs.declared.Stepped.{Stepped}
+use Rattle.host.specs.Stepped.{Stepped}
 
 -- ---- limits
 
@@ -63,7 +56,7 @@ host_ok s h =
 
 -- this host with this answer, and nothing sent
 abbrev pub unsent_with : ℕ → Host → Stepped
-unsent_with a h = record { answer = a; host = h; sent = Sent.Nothing; receivers = 0 }
+unsent_with a h = record { answer = a; host = h; sent = None; receivers = 0 }
 
 -- refused by this number: the host that was handed in
 abbrev pub refused_with : ℕ → Host → Stepped
@@ -75,7 +68,7 @@ quiet_with h = unsent_with done h
 
 -- done, with this host and this message to these hosts
 abbrev pub sending_with : Host → Message → ℕ → Stepped
-sending_with h m set = record { answer = done; host = h; sent = Sent.One m; receivers = set }
+sending_with h m set = record { answer = done; host = h; sent = Some m; receivers = set }
 
 -- what was done where nothing was refused, else what was handed in with the refusal's number
 abbrev pub step_with : ℕ → Host → Stepped → Stepped
@@ -95,7 +88,7 @@ with_round h r =
       named = h.state.named;
     })
 
-abbrev pub with_vote : Host → Promised → Accepted → Host
+abbrev pub with_vote : Host → Option Ballot → Option Lease → Host
 with_vote h p a =
     with_state h
     (record {
@@ -106,7 +99,7 @@ with_vote h p a =
       named = h.state.named;
     })
 
-abbrev pub with_named : Host → Round → Named → Host
+abbrev pub with_named : Host → Round → Option Holder → Host
 with_named h r m =
     with_state h
     (record {
@@ -186,14 +179,14 @@ abbrev pub asking_host : Host → ℕ → Host
 asking_host h d = with_state h (record {
   promised = h.state.promised;
   accepted = h.state.accepted;
-  last = LastBallot.At h.clock;
+  last = Some h.clock;
   round =
       Round.Asking
       (record {
         ballot = ballot_at h.clock h.number;
         duration = d;
         replied = 0;
-        kept = Accepted.Nothing;
+        kept = None;
       });
   named = h.state.named;
 })
@@ -235,15 +228,15 @@ release_of s h = step_with (release_refusal s h) h (on_release s h)
 -- ---- prepare request
 
 -- 'reply with the accepted lease, or empty'
-unfoldable pub response_with : Head → Accepted → Message
-response_with m Accepted.Nothing = PrepareResponseEmpty m
-response_with m (Accepted.One l) = PrepareResponseLease (record { head = m; accepted = l })
+unfoldable pub response_with : Head → Option Lease → Message
+response_with m None = PrepareResponseEmpty m
+response_with m (Some l) = PrepareResponseLease (record { head = m; accepted = l })
 
 -- 'if nothing is promised or the ballot is above the promise, promise it and reply .. Else nothing'
 unfoldable pub on_prepare_request : Host → Head → Stepped
 on_prepare_request h m =
     cond (may_promise h.state.promised m.ballot)
-    (sending_with (with_vote h (Promised.To m.ballot) h.state.accepted)
+    (sending_with (with_vote h (Some m.ballot) h.state.accepted)
     (response_with (head_from h m.ballot) h.state.accepted) (single_of m.ballot.host))
     (quiet_with h)
 
@@ -251,7 +244,7 @@ on_prepare_request h m =
 
 -- 'count it and keep the reply with the highest accepted ballot'; whether its lease has ended is
 -- told by the receiver's clock
-unfoldable pub asking_after : ℕ → Asking → ℕ → Accepted → Asking
+unfoldable pub asking_after : ℕ → Asking → ℕ → Option Lease → Asking
 asking_after clock a sender reply =
     record {
       ballot = a.ballot;
@@ -284,7 +277,7 @@ on_counted_reply s h before a =
     (quiet_with (with_round h (Round.Asking a)))
 
 -- 'to the ballot being asked, from a host not yet counted'
-unfoldable pub on_reply : Settings → Host → Asking → Head → Accepted → Stepped
+unfoldable pub on_reply : Settings → Host → Asking → Head → Option Lease → Stepped
 on_reply s h a m reply =
     cond (is_same a.ballot m.ballot)
     (cond (counts_reply a.replied m.sender)
@@ -292,7 +285,7 @@ on_reply s h a m reply =
     (quiet_with h)
 
 -- a response to a host that asks nothing is nothing
-unfoldable pub on_prepare_response : Settings → Host → Round → Head → Accepted → Stepped
+unfoldable pub on_prepare_response : Settings → Host → Round → Head → Option Lease → Stepped
 on_prepare_response s h Round.Idle m reply = quiet_with h
 on_prepare_response s h (Round.Asking a) m reply = on_reply s h a m reply
 on_prepare_response s h (Round.Proposing p) m reply = quiet_with h
@@ -393,9 +386,9 @@ on_release_request h m =
 
 unfoldable pub on_message : Settings → Host → Message → Stepped
 on_message s h (PrepareRequest m) = on_prepare_request h m
-on_message s h (PrepareResponseEmpty m) = on_prepare_response s h h.state.round m Accepted.Nothing
+on_message s h (PrepareResponseEmpty m) = on_prepare_response s h h.state.round m None
 on_message s h (PrepareResponseLease m) =
-    on_prepare_response s h h.state.round m.head (Accepted.One m.accepted)
+    on_prepare_response s h h.state.round m.head (Some m.accepted)
 on_message s h (ProposeRequest m) = on_propose_request h m
 on_message s h (ProposeResponse m) = on_propose_response s h h.state.round m
 on_message s h (Learn m) = on_learn h m

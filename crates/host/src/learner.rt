@@ -1,51 +1,45 @@
 // A host as learner: whom it names, and whom it tells.
+#![tactic(auto, unfolding(crate::specs::Steps::on_naming, crate::specs::Steps::on_learn))]
+
 ghost use Rattle.std.specs.Prelude.{◌≡◌};
 ghost use Rattle.host.specs.Parts.{Placed};
+ghost use Rattle.host.specs.Told.{stepped_of};
 ghost use Rattle.host.specs.Steps.{on_naming, on_learn};
 
-use super::{Host, Stepped, quiet_with, sending_with};
-use message::{LearnedLease, Message};
-use rules::Holder;
+use super::{Host, Step};
+use message::{Holder, LearnedLease, Message};
 use state::Settings;
 
 impl Host {
     // Learn is sent to the others, if there are any.
-    pub(super) fn on_naming(self, s: Settings, k: Holder, after: Host) -> Stepped
+    pub(super) fn on_naming(self, s: Settings, k: Holder, after: Host) -> Step
         requires { Placed s self }
-        ensures { result ≡ on_naming s self k after }
+        ensures { stepped_of result ≡ on_naming s self k after }
     {
         if s.n == 1 {
-            return quiet_with(after);
+            return Step::quiet(after);
         }
-        let ballot = k.ballot;
-        let end = k.end;
-        let m = Message::Learn(LearnedLease {
-            head: self.head_from(ballot),
+        let learned = LearnedLease {
+            head: self.head_from(k.ballot),
             owner: k.owner,
-            end,
-        });
-        sending_with(after, m, quorum::others_of(s.n, self.number))
+            end: k.end,
+        };
+        let others = quorum::others_of(s.n, self.number);
+        Step::sending(after, Message::Learn(learned), others)
     }
 
     // Another host whose lease's end is to come is named, unless one of a ballot as high is named
     // already.
-    pub(super) fn on_learn(self, m: LearnedLease) -> Stepped
-        ensures { result ≡ on_learn self m }
+    pub(super) fn on_learn(self, m: LearnedLease) -> Step
+        ensures { stepped_of result ≡ on_learn self m }
     {
         if !rules::may_learn(self.number, self.clock, m) {
-            return quiet_with(self);
+            return Step::quiet(self);
         }
-        let end = m.end;
-        let ballot = m.head.ballot;
-        let holder = Holder {
-            ballot,
+        Step::quiet(self.naming(Holder {
+            ballot: m.head.ballot,
             owner: m.owner,
-            end,
-        };
-        let t = self.state;
-        let named = t.named;
-        let round = t.round;
-        let naming = rules::named_by(named, holder);
-        quiet_with(self.with_named(round, naming))
+            end: m.end,
+        }))
     }
 }

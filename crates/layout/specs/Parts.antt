@@ -1,14 +1,16 @@
 -- Lengths and offsets that the code has by name, the groups of fields that it reads together, and
 -- the room that it writes into. Assumes nothing.
-use Rattle.std.specs.Prelude.{◌≡◌, cond, List, ℕ, ◌≤◌, length, eqb}
+use Rattle.std.specs.Prelude.{◌≡◌, cond, List, ℕ, ◌+◌, ◌≤◌, length, eqb}
 use Rattle.wire.specs.Wire.{number_at}
+use Rattle.message.specs.declared.Ballot.{Ballot}
 use Rattle.message.specs.declared.Head.{Head}
-use Rattle.message.specs.declared.Lease.{Lease}
+use Rattle.message.specs.Leases.{Lease}
 use Rattle.message.specs.declared.Numbers.{Numbers}
 use Rattle.message.specs.Message.{prepare_request, prepare_response_lease, propose_request}
 use Rattle.message.specs.Message.{head_with}
 use Rattle.message.specs.Faults.{Field, sender, target, ballot_tick, ballot_host, accepted_tick}
-use Rattle.message.specs.Faults.{accepted_host, owner, keepers_end}
+use Rattle.message.specs.Faults.{accepted_host, owner, keepers_end, holders_end}
+use Rattle.layout.specs.declared.LaterField.{LaterField}
 use Rattle.layout.specs.Layout.{width_of, kind_length, offset_of}
 
 -- where the ballot begins, and how long the head is, the fields that every frame begins with
@@ -25,6 +27,21 @@ most_length = 33
 -- the number in a field of a frame of kind k
 abbrev pub field_at : List ℕ → ℕ → Field → ℕ
 field_at s k x = number_at s (offset_of k x) (width_of x)
+
+-- the fields of the code that not every kind has
+abbrev pub later : LaterField → Field
+later LaterField.AcceptedTick = accepted_tick
+later LaterField.AcceptedHost = accepted_host
+later LaterField.Owner = owner
+later LaterField.KeepersEnd = keepers_end
+later LaterField.HoldersEnd = holders_end
+
+-- a ballot's tick and host, one behind the other
+abbrev pub ballot_at : List ℕ → ℕ → Ballot
+ballot_at s at = record {
+  tick = number_at s at (width_of ballot_tick);
+  host = number_at s (at + width_of ballot_tick) (width_of ballot_host);
+}
 
 -- the head stands alike in every kind; a prepare request is nothing else
 abbrev pub head_at : List ℕ → Head

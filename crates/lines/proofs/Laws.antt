@@ -1,8 +1,9 @@
 -- How long the parts of a listing's lines are at most, the walk over names, and lines after lines.
 -- Assumes nothing.
+use Rattle.std.specs.Prelude.{Option, Some, None}
 use mathlib.Core.Path.{◌≡◌, refl, sym, ap, ◌∙◌}
 use mathlib.Core.List.{List, [], ◌∷◌, ◌++◌, append_assoc}
-use Prim.Native.Nat.{ℕ, zero, suc, ◌+◌, ◌-◌, ◌^◌, ◌≤◌, ◌<◌}
+use Prim.Native.Nat.{ℕ, zero, suc, ◌+◌, ◌-◌, ◌*◌, ◌^◌, ◌≤◌, ◌<◌}
 use native.Mathlib.Omega.{arith}
 use native.Mathlib.Nat.{lt_of_lt_of_le}
 use native.Mathlib.Numerals.{add-one}
@@ -11,8 +12,7 @@ use borrow.Author.Tests.{lt-ltb}
 use lib.ListN.{length, length-append, get_or}
 use Rattle.text.specs.Text.{decimal}
 use Rattle.text.proofs.Laws.{decimal_one, decimal_most}
-use Rattle.rules.specs.declared.Holder.{Holder}
-use Rattle.rules.specs.declared.Named.{Named}
+use Rattle.message.specs.Leases.{Holder}
 use Rattle.host.specs.declared.Host.{Host}
 use Rattle.places.specs.Places.{blank_host}
 use Rattle.lines.specs.Lines.{Line, last_of, name_text, names_from, names_text, line_text, text_of}
@@ -20,14 +20,24 @@ use Rattle.lines.specs.Parts.{digit_of, name_byte, bytes_text}
 
 -- ---- how long numbers are
 
+most : (k b n : ℕ) → 0 < k → b ≤ 10 ^ k → b ≤ 2 ^ 64 → n < b → length (decimal n) ≤ k
+most k b n some p q h = decimal_most k n some (lt_of_lt_of_le h p) (lt_of_lt_of_le h q)
+
+-- bytes, an event's kind, its place, and longer numbers
 pub most_8 : (n : ℕ) → n < 2 ^ 8 → length (decimal n) ≤ 3
-most_8 n h = decimal_most 2 n (lt_of_lt_of_le h (lit≤ tt))
+most_8 n h = most 3 (2 ^ 8) n (lit≤ tt) (lit≤ tt) (lit≤ tt) h
+
+pub most_kind : (n : ℕ) → n < 1000 → length (decimal n) ≤ 3
+most_kind n h = most 3 1000 n (lit≤ tt) (lit≤ tt) (lit≤ tt) h
+
+pub most_place : (n : ℕ) → n < 100000 → length (decimal n) ≤ 5
+most_place n h = most 5 100000 n (lit≤ tt) (lit≤ tt) (lit≤ tt) h
 
 pub most_32 : (n : ℕ) → n < 2 ^ 32 → length (decimal n) ≤ 10
-most_32 n h = decimal_most 9 n (lt_of_lt_of_le h (lit≤ tt))
+most_32 n h = most 10 (2 ^ 32) n (lit≤ tt) (lit≤ tt) (lit≤ tt) h
 
 pub most_64 : (n : ℕ) → n < 2 ^ 64 → length (decimal n) ≤ 20
-most_64 n h = decimal_most 19 n (lt_of_lt_of_le h (lit≤ tt))
+most_64 n h = most 20 (2 ^ 64) n (lit≤ tt) (lit≤ tt) (lit≤ tt) h
 
 -- between a space and the line's end
 pub last_length : (n : ℕ) → length (last_of n) ≡ length (decimal n) + 2
@@ -66,27 +76,32 @@ text_then (l ∷ ls) ms =
 
 -- ---- names as bytes that are lent
 
--- whom host i names, and whom those after it name
-pub bytes_step : (names : List ℕ) (n i : ℕ) → i < n
-    → bytes_text names (n - i) i
-    ≡ (32 ∷ get_or names i 0 ∷ []) ++ bytes_text names (n - (i + 1)) (i + 1)
+-- one name more
+pub bytes_next : (names : List ℕ) (k i j : ℕ) → j ≡ i + k
+    → bytes_text names (k + 1) i ≡ bytes_text names k i ++ (32 ∷ get_or names j 0 ∷ [])
 unfolding bytes_text
-bytes_step names n i h =
-    let e : n - i ≡ suc (n - (i + 1)) = omega arith in
-    rw (e, add-one i)
+bytes_next names zero i j e = let same : j ≡ i = omega arith in rw same refl
+bytes_next names (suc k) i j e =
+    let f : suc k + 1 ≡ suc (k + 1) = omega arith in
+    rw f
+    (ap (λ (bytes : List ℕ). 32 ∷ get_or names i 0 ∷ bytes)
+    (bytes_next names k (suc i) j (omega arith)))
 
-pub bytes_end : (names : List ℕ) (n i : ℕ) → n ≤ i → bytes_text names (n - i) i ≡ []
+pub bytes_length : (names : List ℕ) (k i : ℕ) → length (bytes_text names k i) ≡ 2 * k
 unfolding bytes_text
-bytes_end names n i h =
-    let e : n - i ≡ 0 = omega arith in
-    rw e
+bytes_length names zero i = refl
+bytes_length names (suc k) i = omega (arith, bytes_length names k (suc i))
+
+-- what the parts of a line take
+pub ruleset parts =
+    (most_8, most_kind, most_place, most_32, most_64, last_length, last_64, bytes_length)
 
 -- the number of a host below 10 is its digit
-pub name_text_lem : (m : Named) → ((k : Holder) → m ≡ Named.One k → k.owner < 10)
+pub name_text_lem : (m : Option Holder) → ((k : Holder) → m ≡ Some k → k.owner < 10)
     → name_text m ≡ name_byte m ∷ []
 unfolding name_text digit_of
-name_text_lem Named.Nobody b = refl
-name_text_lem (Named.One k) b = rw (lt-ltb k.owner 10 (b k refl)) (decimal_one k.owner (b k refl))
+name_text_lem None b = refl
+name_text_lem (Some k) b = rw (lt-ltb k.owner 10 (b k refl)) (decimal_one k.owner (b k refl))
 
 pub names_text_lem : (names : List ℕ) (hosts : List Host) (k i : ℕ)
     → ((h : ℕ) → i ≤ h → h < i + k

@@ -1,7 +1,8 @@
 -- The lines of a listing before any digits, and their text. Assumes nothing.
+use Rattle.std.specs.Prelude.{Option, Some, None}
+use Rattle.message.specs.Leases.{Holder}
 use Rattle.std.specs.Prelude.{ℕ, zero, suc, List, [], ◌∷◌, ◌++◌, get_or}
 use Rattle.text.specs.Text.{decimal, spaced}
-use Rattle.rules.specs.declared.Named.{Named}
 use Rattle.state.specs.declared.Settings.{Settings}
 use Rattle.host.specs.declared.Host.{Host}
 use Rattle.places.specs.Places.{blank_host}
@@ -12,14 +13,14 @@ pub data Line : Type 0 where
   -- the settings and the opening clock
   settings : Settings → ℕ → Line
   -- an event's place from 1, its kind, its answer, and whom each host names
-  event : ℕ → ℕ → ℕ → List Named → Line
+  event : ℕ → ℕ → ℕ → List (Option Holder) → Line
   -- the byte offset of a record, the number of its fault, and the fault's offset in the record
   stop : ℕ → ℕ → ℕ → Line
   -- how many events were applied, and how many refused
   counts : ℕ → ℕ → Line
 
 -- whom the k hosts from i on name
-unfoldable pub names_from : List Host → ℕ → ℕ → List Named
+unfoldable pub names_from : List Host → ℕ → ℕ → List (Option Holder)
 names_from hs zero i = []
 names_from hs (suc k) i = (get_or hs i blank_host).state.named ∷ names_from hs k (suc i)
 
@@ -40,12 +41,12 @@ unfoldable pub last_of : ℕ → List ℕ
 last_of n = spaced n ++ (10 ∷ [])
 
 -- 'the holder it names, or `-`'
-unfoldable pub name_text : Named → List ℕ
-name_text Named.Nobody = 45 ∷ []
-name_text (Named.One k) = decimal k.owner
+unfoldable pub name_text : Option Holder → List ℕ
+name_text None = 45 ∷ []
+name_text (Some k) = decimal k.owner
 
 -- each after a space
-unfoldable pub names_text : List Named → List ℕ
+unfoldable pub names_text : List (Option Holder) → List ℕ
 names_text [] = []
 names_text (m ∷ ms) = (32 ∷ name_text m) ++ names_text ms
 

@@ -1,14 +1,15 @@
 -- Whom the hosts name, as bytes of a line that can be lent. No claim rests on it. Assumes nothing.
+use Rattle.std.specs.Prelude.{Option, Some, None}
+use Rattle.message.specs.Leases.{Holder}
 use Rattle.std.specs.Prelude.{ℕ, zero, suc, ◌+◌, cond, List, [], ◌∷◌, ltb, get_or}
-use Rattle.rules.specs.declared.Named.{Named}
 use Rattle.host.specs.declared.Host.{Host}
 
 unfoldable pub digit_of : ℕ → ℕ
 digit_of n = cond (ltb n 10) (48 + n) 45
 
-abbrev pub name_byte : Named → ℕ
-name_byte Named.Nobody = 45
-name_byte (Named.One k) = digit_of k.owner
+abbrev pub name_byte : Option Holder → ℕ
+name_byte None = 45
+name_byte (Some k) = digit_of k.owner
 
 abbrev pub name_of : Host → ℕ
 name_of h = name_byte h.state.named

@@ -15,7 +15,7 @@ use Rattle.cell.specs.declared.Cell.{Cell}
 use Rattle.cell.specs.declared.Event.{Event}
 use Rattle.cell.specs.Events.{cell_of, opening_refusal, event_of}
 use Rattle.cell.specs.Runs.{opening, run, answers}
-use Rattle.record.specs.declared.First.{First}
+use Rattle.record.specs.Read.{First}
 use Rattle.record.specs.Record.{kind_of, first_record, opening_offset}
 use Rattle.record.proofs.Laws.{first_shorter}
 use Rattle.lines.specs.Lines.{Line, settings, event, stop, counts}

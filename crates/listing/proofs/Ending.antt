@@ -3,20 +3,22 @@
 use mathlib.Core.Path.{◌≡◌, refl, ap}
 use mathlib.Core.List.{List, ◌++◌, append-nil}
 use Prim.Native.Nat.{ℕ}
-use Rattle.record.specs.declared.Record.{Record}
+use Rattle.base.specs.declared.Fault.{Fault}
+use Rattle.record.specs.declared.Record.{Record as Answer}
+use Rattle.record.specs.Read.{Record, numbered_record}
 use Rattle.lines.specs.Lines.{stop, counts, line_text, text_of}
 use Rattle.listing.specs.Parts.{last_lines}
 
 -- what the `else` of a `let .. else` knows of a record
-abbrev pub NoFault : Record → Type 0
-NoFault r = (k o : ℕ) → r ≡ Record.Fault k o → ⊥
+abbrev pub NoFault : Answer → Type 0
+NoFault r = (f : Fault) → r ≡ Answer.Fault f → ⊥
 
-pub no_fault : (at a r : ℕ) (x : Record) → NoFault x
-    → text_of (last_lines at a r x) ≡ line_text (counts a r)
+pub no_fault : (at a r : ℕ) (x : Answer) → NoFault x
+    → text_of (last_lines at a r (numbered_record x)) ≡ line_text (counts a r)
 unfolding last_lines text_of
-no_fault at a r Record.End t = append-nil _
-no_fault at a r (Record.Fault k o) t = absurd (t k o refl)
-no_fault at a r (Record.Event e next) t = append-nil _
+no_fault at a r Answer.End t = append-nil _
+no_fault at a r (Answer.Fault f) t = absurd (t f refl)
+no_fault at a r (Answer.Event e next) t = append-nil _
 
 pub last_fault : (at a r f o : ℕ)
     → text_of (last_lines at a r (Record.Fault f o))

@@ -8,7 +8,7 @@ use lib.Dec.{ltb}
 use lib.ListN.{length, take}
 use lib.Seq.{length-take-le}
 use borrow.Author.Tests.{le-ltb, ltb-true}
-use Rattle.record.specs.declared.Record.{Record}
+use Rattle.record.specs.Read.{Record}
 use Rattle.record.specs.Record.{head_of, record_with, record_at}
 use Rattle.record.proofs.Laws.{record_next, read_shorter, read_end}
 use Rattle.lines.specs.Lines.{stop}

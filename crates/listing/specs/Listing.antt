@@ -1,19 +1,21 @@
 -- The listing of a run file: what the file says, the lines of that, and what the function gives.
 -- Assumes nothing.
+use Rattle.std.specs.Prelude.{Option}
+use Rattle.message.specs.Leases.{Holder}
 use Rattle.std.specs.Prelude.{ℕ, zero, suc, ◌+◌, ◌≤◌, ◌≡◌, cond, List, [], ◌∷◌, ◌++◌, ltb, leb, eqb}
 use Rattle.std.specs.Prelude.{length, take, drop}
+use Rattle.std.specs.declared.result.Result.{Result}
+use Rattle.base.specs.declared.Refusal.{Refusal}
 use Rattle.base.specs.Refusals.{done, refused_room, refused_long}
-use Rattle.rules.specs.declared.Named.{Named}
+use Rattle.base.specs.Answers.{refusal_number}
 use Rattle.state.specs.declared.Settings.{Settings}
 use Rattle.cell.specs.declared.Cell.{Cell}
 use Rattle.cell.specs.declared.Event.{Event}
 use Rattle.cell.specs.Events.{cell_of, opening_refusal, event_of}
 use Rattle.cell.specs.Runs.{opening, answers}
-use Rattle.record.specs.declared.Record.{Record}
-use Rattle.record.specs.declared.First.{First}
+use Rattle.record.specs.Read.{Record, First}
 use Rattle.record.specs.Record.{kind_of, record_at, first_record, opening_offset}
 use Rattle.lines.specs.Lines.{Line, settings, event, stop, counts, names_from, text_of}
-use Rattle.listing.specs.declared.Listed.{Listed}
 
 -- ---- what a run file says from an offset on
 
@@ -50,7 +52,7 @@ events_of (then e more) = e ∷ events_of more
 -- ---- its lines
 
 -- whom each host of a cell names
-abbrev pub names_of : Cell → List Named
+abbrev pub names_of : Cell → List (Option Holder)
 names_of c = names_from c.hosts c.settings.n 0
 
 -- 'per event: its place from 1, kind, answer, then for each host the holder it names', the events
@@ -124,6 +126,15 @@ long_room = 12
 -- the least room for the listing of a file: 16 is looked at first
 unfoldable pub room_for : List ℕ → ℕ
 room_for s = cond (ltb longest_run (length s)) long_room listing_room
+
+-- what the function gives: an answer's number, and how many bytes were written
+pub record Listed : Type 0 where
+  pub answer : ℕ
+  pub len : ℕ
+
+unfoldable pub listed_result : Result ℕ Refusal → Listed
+listed_result (Result.Ok n) = record { answer = done; len = n }
+listed_result (Result.Err k) = record { answer = refusal_number k; len = 0 }
 
 -- a room below that is 8, and is left as it is
 unfoldable pub listed_of : List ℕ → ℕ → Listed

@@ -2,10 +2,11 @@
 -- bytes, and how a listing ends. No claim rests on it. Assumes nothing.
 use Rattle.std.specs.Prelude.{ℕ, ◌+◌, ◌-◌, ◌≤◌, ◌<◌, ◌≡◌, cond, List, [], ◌∷◌, ◌++◌, eqb, length}
 use Rattle.base.specs.Refusals.{done}
-use Rattle.record.specs.declared.Record.{Record}
+use Rattle.record.specs.Read.{Record}
 use Rattle.record.specs.Record.{kind_of}
 use Rattle.cell.specs.declared.Event.{Event}
-use Rattle.text.specs.Parts.{Put}
+use Rattle.text.specs.declared.Page.{Page}
+use Rattle.text.specs.Parts.{Wrote, HasRoom}
 use Rattle.lines.specs.Lines.{Line, stop, counts, event_head}
 use Rattle.lines.specs.Parts.{bytes_text}
 use Rattle.listing.specs.declared.Walk.{Walk}
@@ -40,24 +41,22 @@ walked_to w answer looked next pos =
     }
 
 -- a line has room, and the place that it begins with has five digits at most
-pub record LineFits (w : Walk) (out names : List ℕ) (n : ℕ) : Type 0 where
+pub record LineFits (w : Walk) (page : Page) (names : List ℕ) : Type 0 where
   pub count : w.applied + w.refused + 1 < 100000
-  pub room : w.pos + 50 ≤ length out
-  pub few : n ≤ 9
-  pub nine : length names ≡ 9
+  pub room : HasRoom page 50
+  pub few : length names ≤ 9
 
 -- an event's line, with the names as bytes
-abbrev pub byte_line : ℕ → ℕ → ℕ → List ℕ → ℕ → List ℕ
-byte_line place kind answer names n =
-    event_head place kind answer ++ (bytes_text names n 0 ++ (10 ∷ []))
+abbrev pub byte_line : ℕ → ℕ → ℕ → List ℕ → List ℕ
+byte_line place kind answer names =
+    event_head place kind answer ++ (bytes_text names (length names) 0 ++ (10 ∷ []))
 
 -- it is written, and the walk has come past the event
-pub record LinePut (w : Walk) (out : List ℕ) (e : Event) (answer looked next : ℕ) (names : List ℕ)
-    (n : ℕ) (r : Walk) (after : List ℕ) : Type 0 where
-  pub put : Put out w.pos (byte_line (w.applied + w.refused + 1) (kind_of e) answer names n)
-      r.pos after
-  pub walk : r ≡ walked_to w answer looked next r.pos
-  pub short : r.pos ≤ w.pos + 50
+pub record LinePut (w : Walk) (before : Page) (e : Event) (answer looked next : ℕ)
+    (names : List ℕ) (r : Walk) (after : Page) : Type 0 where
+  pub wrote : Wrote before (byte_line (w.applied + w.refused + 1) (kind_of e) answer names) after
+  pub walk : r ≡ walked_to w answer looked next after.at
+  pub short : after.at ≤ before.at + 50
 
 -- how a listing ends at a record that is no event
 unfoldable pub last_lines : ℕ → ℕ → ℕ → Record → List Line

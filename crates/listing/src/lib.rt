@@ -4,20 +4,22 @@
 #![tactic(auto)]
 
 ghost use Rattle.std.specs.Prelude.{◌≡◌, ◌+◌, ◌≤◌, ◌<◌, ltb, length};
-ghost use Rattle.text.specs.Parts.{Put};
+ghost use Rattle.text.specs.Parts.{Wrote, HasRoom};
 ghost use Rattle.base.specs.Refusals.{refused_long};
+ghost use Rattle.record.specs.Read.{numbered_record};
 ghost use Rattle.record.specs.Record.{kind_of};
 ghost use Rattle.lines.specs.Lines.{stop, event_head, line_text, text_of};
 ghost use Rattle.listing.specs.Listing.{longest_run, long_room, room_for};
-ghost use Rattle.listing.specs.Parts.{done_of, last_lines, walk_from, walked_to, LineFits};
-ghost use Rattle.listing.specs.Parts.{LinePut};
+ghost use Rattle.listing.specs.Parts.{last_lines, walk_from, walked_to, LineFits, LinePut};
 
 use base::DONE;
 use cell::Event;
 use record::{Record, SETTINGS_LENGTH};
+use text::Page;
 
 // How far the walk of a run file has come, where its listing goes on, its counts so far, and what
-// the last event was answered, with how many slots it looked at.
+// the last event was answered, with how many slots it looked at. The answer is a plain number, as a
+// line says it: a narrower type would ask more of whoever makes a walk.
 #[derive(Clone, Copy)]
 pub struct Walk {
     pub at: usize,
@@ -26,13 +28,6 @@ pub struct Walk {
     pub refused: u64,
     pub answer: u8,
     pub looked: usize,
-}
-
-// The answer's number, and how many bytes were written.
-#[derive(Clone, Copy)]
-pub struct Listed {
-    pub answer: u8,
-    pub len: usize,
 }
 
 // The longest run file.
@@ -52,28 +47,23 @@ pub fn is_long(len: usize) -> bool
 }
 
 // The least room for the listing of a run file.
+#[tactic(auto, unfolding(crate::specs::Listing::room_for))]
 pub fn room_for(run: &[u8]) -> usize
     ensures { result ≡ room_for run.now }
 {
     if is_long(run.len()) {
-        return LONG_ROOM;
+        LONG_ROOM
+    } else {
+        LISTING_ROOM
     }
-    LISTING_ROOM
 }
 
 // The listing of a run file that is too long.
-pub fn put_long(out: &mut [u8]) -> usize
-    requires { long_room ≤ length out.old }
-    ensures { Put out.old 0 (line_text (stop 0 refused_long 0)) result
-        out.new }
+pub fn put_long(page: &mut Page)
+    requires { HasRoom page.old long_room }
+    ensures { Wrote page.old (line_text (stop 0 refused_long 0)) page.new }
 {
-    text::put_word(out, 0, b"stop 0 16 0\n")
-}
-
-fn done_of(answer: u8) -> u64
-    ensures { (result ≡ done_of answer) × (result ≤ 1) }
-{
-    if answer == DONE { 1 } else { 0 }
+    page.word(b"stop 0 16 0\n");
 }
 
 // The walk before its first event, whose line comes at an offset.
@@ -90,12 +80,14 @@ pub fn walk_from(pos: usize) -> Walk
     }
 }
 
-// The walk past an event: its line is written, and its answer counted.
+// The walk past an event: its line is written, and its answer counted. A free function, as `run`
+// calls it so; a method would be no shorter.
+#[tactic(auto, unfolding(crate::specs::Parts::walked_to, crate::specs::Parts::done_of))]
 pub fn walked(w: Walk, answer: u8, looked: usize, next: usize, pos: usize) -> Walk
     requires { w.applied + w.refused + 1 < 100000 }
     ensures { result ≡ walked_to w answer looked next pos }
 {
-    let done = done_of(answer);
+    let done = u64::from(answer == DONE);
     Walk {
         at: next,
         pos,
@@ -107,46 +99,45 @@ pub fn walked(w: Walk, answer: u8, looked: usize, next: usize, pos: usize) -> Wa
 }
 
 // An event's place from 1, its kind and its answer, with which its line begins.
-pub fn put_head(out: &mut [u8], w: Walk, e: Event, answer: u8) -> usize
-    requires { (w.applied + w.refused + 1 < 100000) × (w.pos + 13 ≤ length out.old) }
-    ensures { Put out.old w.pos
-        (event_head (w.applied + w.refused + 1) (kind_of e) answer) result out.new
-        × (result ≤ w.pos + 13) }
+#[tactic(auto, using(record::proofs::Laws::kind_small))]
+pub fn put_line_head(page: &mut Page, w: Walk, e: Event, answer: u8)
+    requires { (w.applied + w.refused + 1 < 100000) × HasRoom page.old 13 }
+    ensures wrote { Wrote page.old
+        (event_head (w.applied + w.refused + 1) (kind_of e) answer) page.new }
+    ensures short { page.new.at ≤ page.old.at + 13 }
 {
     let place = w.applied + w.refused + 1;
-    lines::put_event_head(out, w.pos, place, record::kind_of(e), answer)
+    lines::put_event_head(page, place, record::kind_of(e), answer);
 }
 
-// The line of an event, with these names, and the walk past it.
+// The line of an event, with these names, and the walk past it. No crate calls it, and the edit
+// `next_line_over_the_lines_end` rests on it.
 pub fn put_line(
-    out: &mut [u8],
+    page: &mut Page,
     w: Walk,
     e: Event,
     answer: u8,
     looked: usize,
     next: usize,
-    names: &[u8; 9],
-    n: u8,
+    names: &[u8],
 ) -> Walk
-    requires { LineFits w out.old names.now n }
-    ensures { LinePut w out.old e answer looked next names.now n result
-        out.new }
+    requires { LineFits w page.old names.now }
+    ensures { LinePut w page.old e answer looked next names.now result page.new }
 {
-    let head = put_head(out, w, e, answer);
-    let named = lines::put_names(out, head, names, n);
-    let end = text::put_byte(out, named, b'\n');
-    walked(w, answer, looked, next, end)
+    put_line_head(page, w, e, answer);
+    lines::put_names(page, names);
+    page.byte(b'\n');
+    walked(w, answer, looked, next, page.at)
 }
 
 // The fault's line, if there is one, and the counts.
-pub fn put_end(out: &mut [u8], w: Walk, r: Record) -> usize
-    requires { w.pos + 128 ≤ length out.old }
-    ensures { Put out.old w.pos
-        (text_of (last_lines w.at w.applied w.refused r)) result out.new }
+pub fn put_end(page: &mut Page, w: Walk, r: Record)
+    requires { HasRoom page.old 128 }
+    ensures { Wrote page.old (text_of (last_lines w.at w.applied w.refused (numbered_record r)))
+        page.new }
 {
-    let Record::Fault(number, offset) = r else {
-        return lines::put_counts(out, w.pos, w.applied, w.refused);
-    };
-    let end = lines::put_stop(out, w.pos, w.at, number, offset);
-    lines::put_counts(out, end, w.applied, w.refused)
+    if let Record::Fault(fault) = r {
+        lines::put_stop(page, w.at, fault.refusal.number(), fault.at);
+    }
+    lines::put_counts(page, w.applied, w.refused);
 }

@@ -96,19 +96,23 @@ numbers_with k h a o e f =
       holders = f;
     }
 
+-- those of a kind that has no more than a head
+abbrev pub head_numbers : ℕ → Head → Numbers
+head_numbers k h = numbers_with k h no_ballot 0 no_keepers no_holders
+
 -- the numbers of a message; those that its kind lacks are 0
 unfoldable pub numbers_of : Message → Numbers
-numbers_of (PrepareRequest h) = numbers_with prepare_request h no_ballot 0 no_keepers no_holders
+numbers_of (PrepareRequest h) = head_numbers prepare_request h
 numbers_of (PrepareResponseEmpty h) =
-    numbers_with prepare_response_empty h no_ballot 0 no_keepers no_holders
+    head_numbers prepare_response_empty h
 numbers_of (PrepareResponseLease m) =
     numbers_with prepare_response_lease m.head m.accepted.ballot m.accepted.owner
     m.accepted.end no_holders
 numbers_of (ProposeRequest m) =
     numbers_with propose_request m.head no_ballot m.owner m.end no_holders
-numbers_of (ProposeResponse h) = numbers_with propose_response h no_ballot 0 no_keepers no_holders
+numbers_of (ProposeResponse h) = head_numbers propose_response h
 numbers_of (Learn m) = numbers_with learn m.head no_ballot m.owner no_keepers m.end
-numbers_of (ReleaseRequest h) = numbers_with release_request h no_ballot 0 no_keepers no_holders
+numbers_of (ReleaseRequest h) = head_numbers release_request h
 
 abbrev pub head_of : Numbers → Head
 head_of f = head_with f.sender f.target f.ballot

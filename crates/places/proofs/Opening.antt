@@ -1,21 +1,22 @@
 -- The hosts that opening sets, by their place: each of the first n as after a restart and within
 -- its limits, the others blank. Assumes nothing.
-use mathlib.Core.Path.{◌≡◌, refl, sym, ap, ◌∙◌}
+use mathlib.Core.Path.{◌≡◌, refl, sym, ◌∙◌}
 use mathlib.Core.Bool.{true}
-use mathlib.Core.List.{List, [], ◌∷◌, map}
-use Prim.Native.Nat.{ℕ, zero, suc, ◌+◌, ◌≤◌, ◌<◌}
-use native.Mathlib.Nat.{zero-add, add-zero, not-suc-le-zero, le_of_suc-le-suc}
+use mathlib.Core.List.{List, map}
+use Prim.Native.Nat.{ℕ, ◌≤◌, ◌<◌}
+use native.Mathlib.Nat.{zero-add}
 use native.Mathlib.Decide.{dec_lt}
 use native.Mathlib.Omega.{arith}
 use lib.ListN.{get_or, get_or-eq_default}
 use borrow.Author.Tests.{lt-ltb, le-ltb}
+use Rattle.std.specs.List.{range_with_len}
+use Rattle.std.proofs.lemmas.List.FromFn.{get_or-map-range_with_len}
 use Rattle.state.specs.declared.Settings.{Settings}
 use Rattle.state.proofs.Blank.{blank_fits}
 use Rattle.host.specs.declared.Host.{Host}
-use Rattle.host.specs.Steps.{host_ok, quiet_with, restarted_host, restart_of}
-use Rattle.host.proofs.HostLimits.{HostIn, out_host}
-use Rattle.host.proofs.Refusals.{restart_passed}
-use Rattle.host.proofs.Within.{fine_restart, lawful_restart}
+use Rattle.host.specs.Steps.{host_ok, restarted_host}
+use Rattle.host.proofs.HostLimits.{HostIn}
+use Rattle.host.proofs.Within.{fine_restart}
 use Rattle.places.specs.Places.{blank_host, unwaited, new_host, new_hosts}
 use Rattle.places.specs.Parts.{Opens}
 
@@ -28,13 +29,6 @@ unwaited_in s clock i o b =
       wait = omega arith;
       state = blank_fits s i;
     }
-
-pub unwaited_restarts : (s : Settings) (clock i : ℕ) → Opens s clock → i < s.n
-    → restart_of s (unwaited clock i) ≡ quiet_with (restarted_host s (unwaited clock i))
-unwaited_restarts s clock i o b =
-    (lawful_restart s (unwaited clock i)).carried_out
-    (restart_passed s (unwaited clock i)
-    (out_host s (unwaited clock i) (unwaited_in s clock i o b)))
 
 -- 'every host waits as after a restart'
 pub new_fits : (s : Settings) (clock i : ℕ) → Opens s clock → i < s.n
@@ -49,27 +43,15 @@ pub new_blank : (s : Settings) (clock i : ℕ) → s.n ≤ i → new_host s cloc
 unfolding new_host
 new_blank s clock i b = rw (le-ltb i s.n b)
 
--- the k numbers from i on
-unfoldable count_from : ℕ → ℕ → List ℕ
-count_from i zero = []
-count_from i (suc k) = i ∷ count_from (suc i) k
-
-count_at : (f : ℕ → Host) (i n k : ℕ) (d : Host) → k < n
-    → get_or (map f (count_from i n)) k d ≡ f (i + k)
-unfolding count_from
-count_at f i zero k d b = absurd (not-suc-le-zero b)
-count_at f i (suc n) zero d b = ap f (sym (add-zero i))
-count_at f i (suc n) (suc k) d b = count_at f (suc i) n k d (le_of_suc-le-suc b)
-    ∙ ap f (omega arith)
-
 pub new_at : (s : Settings) (clock k : ℕ) → s.n ≤ 9
     → get_or (new_hosts s clock) k blank_host ≡ new_host s clock k
-unfolding count_from
 new_at s clock k few = go (dec_lt k 9)
   where
-    go : Dec (k < 9)
-        → get_or (map (new_host s clock) (count_from 0 9)) k blank_host ≡ new_host s clock k
-    go (yes p) = count_at (new_host s clock) 0 9 k blank_host p ∙ ap (new_host s clock) (zero-add k)
+    nine : List Host
+    nine = map (new_host s clock) (range_with_len 0 9)
+
+    go : Dec (k < 9) → get_or nine k blank_host ≡ new_host s clock k
+    go (yes p) = get_or-map-range_with_len (new_host s clock) 0 9 k k blank_host p (zero-add k)
     go (no q) =
-        get_or-eq_default (map (new_host s clock) (count_from 0 9)) blank_host {n = k} (omega arith)
+        get_or-eq_default nine blank_host {n = k} (omega arith)
         ∙ sym (new_blank s clock k (omega arith))

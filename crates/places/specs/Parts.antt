@@ -1,5 +1,5 @@
--- What the code that opens a cell supposes behind opening's refusals, a turn of the walk over
--- clocks, and numbers that are kept beside the hosts. No claim rests on it. Assumes nothing.
+-- What holds behind opening's refusals, a turn of the walk over clocks, and numbers that are kept
+-- beside the hosts. No claim rests on it. Assumes nothing.
 use Rattle.std.specs.Prelude.{◌≡◌, true, cond, List, ℕ, ◌≤◌, ◌<◌, eqb, length, get_or}
 use Rattle.message.specs.Message.{last_tick}
 use Rattle.state.specs.declared.Settings.{Settings}

@@ -1,20 +1,24 @@
--- The walk over marks is the walk that places over every list of slots that the marks are of.
+-- The walk over free slots is the walk that places over every list of slots that are free so.
 -- Assumes nothing.
 use mathlib.Core.Path.{◌≡◌, refl, sym, ap, ◌∙◌}
-use mathlib.Core.Bool.{Bool, true, false, cond, ◌&&◌, not}
+use mathlib.Core.Bool.{Bool, true, false, not}
 use mathlib.Core.Logic.{⊎_elim}
 use mathlib.Core.List.{List, ◌∷◌}
 use Prim.Native.Nat.{ℕ, zero, suc, ◌+◌, ◌-◌, ◌≤◌, ◌<◌}
 use native.Mathlib.Decide.{ℕ_discrete}
 use native.Mathlib.Omega.{arith}
-use lib.Dec.{ltb, leb, eqb}
+use lib.Dec.{leb}
 use lib.ListN.{length, get_or, set, length-set}
-use lib.Seq.{set_out, get_or-set_same, get_or-set_other}
-use borrow.Author.Tests.{lt-ltb, le-leb, leb-true, ltb-true, not-true}
-use Rattle.base.proofs.Tests.{true_false, both, and_true}
+use lib.Seq.{get_or-set_same, get_or-set_other}
+use borrow.Author.Tests.{leb-true, not-true}
+use Rattle.std.specs.Prelude.{Option, Some, None}
+use Rattle.std.specs.Option.{unwrap_or}
+use Rattle.std.specs.declared.result.Result.{Result}
+use Rattle.base.specs.declared.Refusal.{Refusal}
+use Rattle.base.proofs.Tests.{both}
 use Rattle.quorum.specs.Sets.{is_in, members_from, members}
 use Rattle.quorum.specs.Parts.{next_in}
-use Rattle.quorum.proofs.Laws.{members_step, members_none}
+use Rattle.quorum.proofs.Laws.{members_step}
 use Rattle.quorum.proofs.Next.{next_is}
 use Rattle.message.specs.declared.Message.{Message}
 use Rattle.message.specs.Message.{addressed_to}
@@ -22,61 +26,64 @@ use Rattle.slots.specs.declared.Slot.{Slot}
 use Rattle.slots.specs.Slots.{slot_count, empty_slot, slot_with, is_empty, placed_each, looked_for}
 use Rattle.slots.specs.Slots.{freed}
 use Rattle.slots.proofs.Walks.{Placing, placing_first, placing_past, placing_fill, placing_ended}
+use Rattle.placing.specs.declared.Fill.{Fill}
 use Rattle.placing.specs.declared.Placed.{Placed}
-use Rattle.placing.specs.Parts.{Marks, freed_in, marked_free, taken_from, eight_taken, Passed}
-use Rattle.placing.specs.Parts.{NextEmpty, stored, Fills, Lacks, Nines, Outcome}
+use Rattle.placing.specs.Parts.{Frees, with_freed, taken_from, eight_taken, Passed, FreeAfter}
+use Rattle.placing.specs.Parts.{NextFree}
+use Rattle.placing.specs.Parts.{no_fill, pushed, stored, Fills, Lacks, Outcome}
 
--- ---- marks
+-- ---- which slots are free
 
-abbrev pub Marked : List Slot → List ℕ → ℕ → Type 0
-Marked ss marks x = eqb (get_or marks x 0) 0 ≡ is_empty (get_or ss x empty_slot).content
+abbrev pub FreeAt : List Slot → List Bool → ℕ → Type 0
+FreeAt ss free x = get_or free x false ≡ is_empty (get_or ss x empty_slot).content
 
--- one slot is marked anew
-pub mark_set : (ss : List Slot) (marks : List ℕ) (i y x : ℕ) → i < length marks
-    → eqb y 0 ≡ is_empty (get_or ss i empty_slot).content → ((x ≡ i → ⊥) → Marked ss marks x)
-    → Marked ss (set marks i y) x
-mark_set ss marks i y x l e f = go (ℕ_discrete x i)
+-- one slot is told anew
+pub free_set : (ss : List Slot) (free : List Bool) (i x : ℕ) (y : Bool) → i < length free
+    → y ≡ is_empty (get_or ss i empty_slot).content → ((x ≡ i → ⊥) → FreeAt ss free x)
+    → FreeAt ss (set free i y) x
+free_set ss free i x y l e f = go (ℕ_discrete x i)
   where
-    go : Dec (x ≡ i) → Marked ss (set marks i y) x
-    go (yes q) = rw (q, get_or-set_same marks i y 0 l) e
-    go (no q) = rw (get_or-set_other marks i x y 0 q) (f q)
+    go : Dec (x ≡ i) → FreeAt ss (set free i y) x
+    go (yes q) = rw (q, get_or-set_same free i y false l) e
+    go (no q) = rw (get_or-set_other free i x y false q) (f q)
 
--- a slot that is stored to, and its mark
-pub marks_set : {ss : List Slot} {marks : List ℕ} (i x : ℕ) (s : Slot) → Marks ss marks
-    → i < slot_count → eqb x 0 ≡ is_empty s.content → Marks (set ss i s) (set marks i x)
-marks_set {ss = ss} {marks = marks} i x s p l e =
+-- a slot that is stored to
+pub frees_set : {ss : List Slot} {free : List Bool} (i : ℕ) (x : Bool) (s : Slot) → Frees ss free
+    → i < slot_count → x ≡ is_empty s.content → Frees (set ss i s) (set free i x)
+frees_set {ss = ss} {free = free} i x s p l e =
     let a : i < length ss = omega (arith, p.slots) in
     record {
       slots = length-set ss i s ∙ p.slots;
-      many = length-set marks i x ∙ p.many;
+      many = length-set free i x ∙ p.many;
       empty = λ j u.
-          mark_set (set ss i s) marks i x j (omega (arith, p.many))
+          free_set (set ss i s) free i j x (omega (arith, p.many))
           (rw (get_or-set_same ss i s empty_slot a) e)
           (λ q. rw (get_or-set_other ss i j s empty_slot q) (p.empty j u));
     }
 
 -- one that is freed
-pub marks_free : {ss : List Slot} {marks : List ℕ} (i : ℕ) → Marks ss marks → i < slot_count
-    → Marks (freed ss i) (set marks i 0)
+pub frees_free : {ss : List Slot} {free : List Bool} (i : ℕ) → Frees ss free → i < slot_count
+    → Frees (freed ss i) (set free i true)
 unfolding is_empty
-marks_free i p l = marks_set i 0 empty_slot p l refl
+frees_free i p l = frees_set i true empty_slot p l refl
 
 -- an event's slot, freed or not
-pub marks_freed : (frees : Bool) {ss : List Slot} {marks : List ℕ} (i : ℕ) → Marks ss marks
-    → i < slot_count → Marks (cond frees (freed ss i) ss) (marked_free (freed_in frees i) marks)
-unfolding freed_in
-marks_freed true i p l = marks_free i p l
-marks_freed false {marks = marks} i p l = rw (set_out marks slot_count 0 (omega (arith, p.many))) p
+pub frees_freed : (o : Option ℕ) (ss after : List Slot) {free : List Bool} → Frees ss free
+    → ((i : ℕ) → o ≡ Some i → (i < slot_count) × (after ≡ freed ss i)) → (o ≡ None → after ≡ ss)
+    → Frees after (with_freed o free)
+unfolding with_freed
+frees_freed None ss after p f n = rw (n refl) p
+frees_freed (Some i) ss after p f n = let q = f i refl in rw q.1 (frees_free i p q.0)
 
--- ---- the next empty slot
+-- ---- the next free slot
 
-pub passed_first : (marks : List ℕ) (from : ℕ) → from ≤ slot_count → Passed marks from from
-passed_first marks from l =
+pub passed_first : (free : List Bool) (from : ℕ) → from ≤ slot_count → Passed free from from
+passed_first free from l =
     record { least = omega arith; most = l; taken = λ x a b. absurd (omega arith) }
 
-module _ {marks : List ℕ} {from j : ℕ} (p : Passed marks from j) where
+module _ {free : List Bool} {from j : ℕ} (p : Passed free from j) where
   -- one more, and several
-  pub passed_on : j < slot_count → eqb (get_or marks j 0) 0 ≡ false → Passed marks from (j + 1)
+  pub passed_on : j < slot_count → get_or free j false ≡ false → Passed free from (j + 1)
   passed_on l e =
       record {
         least = omega (arith, p.least);
@@ -84,134 +91,114 @@ module _ {marks : List ℕ} {from j : ℕ} (p : Passed marks from j) where
         taken = λ x a b. go x a b (ℕ_discrete x j);
       }
     where
-      go : (x : ℕ) → from ≤ x → x < j + 1 → Dec (x ≡ j) → eqb (get_or marks x 0) 0 ≡ false
+      go : (x : ℕ) → from ≤ x → x < j + 1 → Dec (x ≡ j) → get_or free x false ≡ false
       go x a b (yes q) = rw q e
       go x a b (no q) = p.taken x a (omega (arith, b, q))
 
-  -- where it stops
-  pub passed_to : (j < slot_count → eqb (get_or marks j 0) 0 ≡ true) → NextEmpty marks from j
-  passed_to e = record { passed = p; empty = e }
-
-passed_more : {marks : List ℕ} {from j : ℕ} (k : ℕ) → Passed marks from j → j + k ≤ slot_count
-    → taken_from k marks j ≡ true → Passed marks from (j + k)
+passed_more : {free : List Bool} {from j : ℕ} (k : ℕ) → Passed free from j → j + k ≤ slot_count
+    → taken_from k free j ≡ true → Passed free from (j + k)
 unfolding taken_from
 passed_more {j = j} zero p l e = let z : j + 0 ≡ j = omega arith in rw z p
-passed_more {marks = marks} {j = j} (suc k) p l e =
-    let t = both (taken_from k marks j) (not (eqb (get_or marks (j + k) 0) 0)) e in
+passed_more {free = free} {j = j} (suc k) p l e =
+    let t = both (taken_from k free j) (not (get_or free (j + k) false)) e in
     let z : (j + k) + 1 ≡ j + suc k = omega arith in
     rw z at
     (passed_on (passed_more k p (omega arith) t.0) (omega arith) (not-true _ t.1))
 
-pub passed_eight : {marks : List ℕ} {from j : ℕ} → Passed marks from j → eight_taken marks j ≡ true
-    → Passed marks from (j + 8)
+pub passed_eight : {free : List Bool} {from j : ℕ} → Passed free from j → eight_taken free j ≡ true
+    → Passed free from (j + 8)
 unfolding eight_taken
-passed_eight {marks = marks} {j = j} p e =
-    let t = both (leb (j + 8) slot_count) (taken_from 8 marks j) e in
+passed_eight {free = free} {j = j} p e =
+    let t = both (leb (j + 8) slot_count) (taken_from 8 free j) e in
     passed_more 8 p (leb-true (j + 8) slot_count t.0) t.1
-
--- the tests of eight slots
-abbrev Taken : List ℕ → ℕ → Bool
-Taken marks x = not (eqb (get_or marks x 0) 0)
-
-pub eight_is : (marks : List ℕ) (j : ℕ) → j + 8 ≤ slot_count
-    → (Taken marks j && Taken marks (j + 1) && Taken marks (j + 2) && Taken marks (j + 3)
-    && Taken marks (j + 4) && Taken marks (j + 5) && Taken marks (j + 6) && Taken marks (j + 7))
-    ≡ eight_taken marks j
-unfolding eight_taken taken_from
-eight_is marks j l =
-    let z : j + 0 ≡ j = omega arith in
-    rw (le-leb (j + 8) slot_count l, z)
 
 -- ---- the same where a slot is freed
 
-module _ {marks : List ℕ} {from at : ℕ} (freed : ℕ) (long : length marks ≡ slot_count)
-    (q : NextEmpty marks from at) where
-  stays : (x : ℕ) → (x ≡ freed → ⊥) → get_or (marked_free freed marks) x 0 ≡ get_or marks x 0
-  stays x n = get_or-set_other marks freed x 0 0 n
+module _ (free : List Bool) (from i : ℕ) where
+  stays : (x : ℕ) → (x ≡ i → ⊥) → get_or (set free i true) x false ≡ get_or free x false
+  stays x n = get_or-set_other free i x true false n
 
-  goes : (x : ℕ) → x < slot_count → x ≡ freed → eqb (get_or (marked_free freed marks) x 0) 0 ≡ true
-  goes x l e = rw (e, get_or-set_same marks freed 0 0 (omega (arith, long)))
+  passes : (r : ℕ) → Passed free from r → (from ≤ i → r ≤ i) → Passed (set free i true) from r
+  passes r p f =
+      record {
+        least = p.least;
+        most = p.most;
+        taken = λ x u v. rw (stays x (λ z. omega (arith, f (omega arith)))) (p.taken x u v);
+      }
 
   -- it comes first
-  pub freed_first : (leb from freed && ltb freed at) ≡ true
-      → NextEmpty (marked_free freed marks) from freed
-  freed_first e =
-      let t = both (leb from freed) (ltb freed at) e in
-      let a = leb-true from freed t.0 in
-      let b = ltb-true freed at t.1 in
+  pub freed_first : (at : Option ℕ) → length free ≡ slot_count → NextFree free from at → from ≤ i
+      → i < unwrap_or at slot_count → FreeAfter (set free i true) from i
+  unfolding NextFree
+  freed_first at long q a b =
+      let p = below at q b in
       record {
-        passed =
-            record {
-              least = a;
-              most = omega (arith, q.passed.most);
-              taken = λ x u v. rw (stays x (λ z. omega arith)) (q.passed.taken x u (omega arith));
-            };
-        empty = λ l. goes freed l refl;
-      }
-
-  -- it does not
-  pub freed_later : (leb from freed && ltb freed at) ≡ false
-      → NextEmpty (marked_free freed marks) from at
-  freed_later e =
-      record {
-        passed =
-            record {
-              least = q.passed.least;
-              most = q.passed.most;
-              taken = λ x u v.
-                  rw (stays x (λ z.
-                  true_false
-                  (sym
-                  (and_true (leb from freed) (ltb freed at) (le-leb from freed (omega arith))
-                  (lt-ltb freed at (omega arith))) ∙ e))) (q.passed.taken x u v);
-            };
-        empty = λ l. go l (ℕ_discrete at freed);
+        passed = passes i p.0 (λ z. omega arith);
+        within = p.1;
+        here = get_or-set_same free i true false (omega (arith, p.1));
       }
     where
-      go : at < slot_count → Dec (at ≡ freed) → eqb (get_or (marked_free freed marks) at 0) 0 ≡ true
-      go l (yes z) = goes at l z
-      go l (no z) = rw (stays at z) (q.empty l)
+      upto : (r : ℕ) → Passed free from r → i < r → Passed free from i × (i < slot_count)
+      upto r p l = (
+        record {
+          least = a;
+          most = omega (arith, p.most);
+          taken = λ x u v. p.taken x u (omega arith);
+        },
+        omega (arith, p.most),
+      )
+
+      below : (o : Option ℕ) → NextFree free from o → i < unwrap_or o slot_count
+          → Passed free from i × (i < slot_count)
+      below None p l = upto slot_count p l
+      below (Some r) p l = upto r p.passed l
+
+  -- it does not
+  pub freed_later : (at : Option ℕ) → length free ≡ slot_count → NextFree free from at
+      → (from ≤ i → unwrap_or at slot_count ≤ i) → NextFree (set free i true) from at
+  unfolding NextFree
+  freed_later None long p f = passes slot_count p f
+  freed_later (Some r) long p f =
+      record { passed = passes r p.passed f; within = p.within; here = go (ℕ_discrete r i) }
+    where
+      go : Dec (r ≡ i) → get_or (set free i true) r false ≡ true
+      go (yes z) = rw (z, get_or-set_same free i true false (omega (arith, long, z, p.within)))
+      go (no z) = rw (stays r z) p.here
 
 -- ---- what is stored
 
 -- what is remembered from place j on does not matter for the first k
-stored_below : (k j a b : ℕ) (filled to : List ℕ) (m : Message) (ss : List Slot) → k ≤ j
-    → stored k (set filled j a) (set to j b) m ss ≡ stored k filled to m ss
+stored_below : (k j : ℕ) (f : Fill) (fills : List Fill) (m : Message) (ss : List Slot) → k ≤ j
+    → stored k (set fills j f) m ss ≡ stored k fills m ss
 unfolding stored
-stored_below zero j a b filled to m ss h = refl
-stored_below (suc k) j a b filled to m ss h =
+stored_below zero j f fills m ss h = refl
+stored_below (suc k) j f fills m ss h =
     rw (
-      get_or-set_other filled j k a 0 (λ e. absurd (omega (arith, e))),
-      get_or-set_other to j k b 0 (λ e. absurd (omega (arith, e))),
-      stored_below k j a b filled to m ss (omega arith),
+      get_or-set_other fills j k f no_fill (λ e. absurd (omega (arith, e))),
+      stored_below k j f fills m ss (omega arith),
     )
 
 -- one slot more is stored to
-stored_next : (k a b : ℕ) (filled to : List ℕ) (m : Message) (ss : List Slot) → k < length filled
-    → k < length to
-    → stored (k + 1) (set filled k a) (set to k b) m ss
-    ≡ set (stored k filled to m ss) a (slot_with (addressed_to m b))
+stored_next : (k : ℕ) (f : Fill) (fills : List Fill) (m : Message) (ss : List Slot)
+    → k < length fills
+    → stored (k + 1) (set fills k f) m ss
+    ≡ set (stored k fills m ss) f.slot (slot_with (addressed_to m f.host))
 unfolding stored
-stored_next k a b filled to m ss f t =
+stored_next k f fills m ss l =
     let g : k + 1 ≡ suc k = omega arith in
-    rw (
-      g,
-      get_or-set_same filled k a 0 f,
-      get_or-set_same to k b 0 t,
-      stored_below k k a b filled to m ss (omega arith),
-    )
+    rw (g, get_or-set_same fills k f no_fill l, stored_below k k f fills m ss (omega arith))
 
 -- the slots from j on are as they were, where all that was stored is below
-stored_above : (k j x : ℕ) (filled to : List ℕ) (m : Message) (ss : List Slot)
-    → ((y : ℕ) → y < k → get_or filled y 0 < j) → j ≤ x
-    → get_or (stored k filled to m ss) x empty_slot ≡ get_or ss x empty_slot
+stored_above : (k j x : ℕ) (fills : List Fill) (m : Message) (ss : List Slot)
+    → ((y : ℕ) → y < k → (get_or fills y no_fill).slot < j) → j ≤ x
+    → get_or (stored k fills m ss) x empty_slot ≡ get_or ss x empty_slot
 unfolding stored
-stored_above zero j x filled to m ss f h = refl
-stored_above (suc k) j x filled to m ss f h =
+stored_above zero j x fills m ss f h = refl
+stored_above (suc k) j x fills m ss f h =
     let b = f k (omega arith) in
-    get_or-set_other (stored k filled to m ss) (get_or filled k 0) x _ empty_slot
+    get_or-set_other (stored k fills m ss) (get_or fills k no_fill).slot x _ empty_slot
     (λ e. absurd (omega (arith, e, b)))
-    ∙ stored_above k j x filled to m ss (λ y l. f y (omega arith)) h
+    ∙ stored_above k j x fills m ss (λ y l. f y (omega arith)) h
 
 -- ---- the walk
 
@@ -221,137 +208,126 @@ any =
     Message.PrepareRequest
     (record { sender = 0; target = 0; ballot = record { tick = 0; host = 0 } })
 
--- at host h and slot j, with k slots found
-pub record Walking (marks : List ℕ) (receivers n : ℕ) (filled to : List ℕ) (h j k : ℕ) : Type 0
+-- at host h and slot j
+pub record Walking (free : List Bool) (receivers n : ℕ) (p : Placed) (h j : ℕ) : Type 0
   where
-    pub nines : Nines filled to
-    pub few : k ≤ h
+    pub nine : length p.fills ≡ 9
+    pub few : p.count ≤ h
     pub most : h ≤ n
     pub member : h < n → is_in receivers h ≡ true
-    pub below : (x : ℕ) → x < k → get_or filled x 0 < j
+    pub below : (x : ℕ) → x < p.count → (get_or p.fills x no_fill).slot < j
     pub places : j ≤ slot_count
-    pub placing : (ss : List Slot) (m : Message) → Marks ss marks
-        → Placing m ss (stored k filled to m ss) (members n receivers)
-        (members_from receivers h (n - h)) j k
+    pub placing : (ss : List Slot) (m : Message) → Frees ss free
+        → Placing m ss (stored p.count p.fills m ss) (members n receivers)
+        (members_from receivers h (n - h)) j p.count
 
-pub walking_first : (marks : List ℕ) (receivers n : ℕ) (filled to : List ℕ) → Nines filled to
-    → Walking marks receivers n filled to (next_in receivers 0 n) 0 0
+pub walking_first : (free : List Bool) (receivers n : ℕ) (p : Placed) → length p.fills ≡ 9
+    → p.count ≡ 0 → Walking free receivers n p (next_in receivers 0 n) 0
 unfolding stored
-walking_first marks receivers n filled to e =
+walking_first free receivers n p e none =
     let x = next_is receivers 0 n (omega arith) in
     let z : n - 0 ≡ n = omega arith in
     record {
-      nines = e;
-      few = omega arith;
+      nine = e;
+      few = omega (arith, none);
       most = x.most;
       member = x.member;
-      below = λ y l. absurd (omega (arith, l));
+      below = λ y l. absurd (omega (arith, l, none));
       places = omega arith;
-      placing = λ ss m p.
-          rw (← x.rest, z) (placing_first m ss (members n receivers) p.slots);
+      placing = λ ss m q.
+          rw (none, ← x.rest, z) (placing_first m ss (members n receivers) q.slots);
     }
 
--- no receiver, none to place to
-pub fills_none : (marks : List ℕ) (n : ℕ) (filled to : List ℕ) → Fills marks 0 n filled to 0 0
-unfolding stored placed_each looked_for
-fills_none marks n filled to =
-    let none = members_none 0 0 n refl in
-    record {
-      few = omega arith;
-      within = λ x l. absurd (omega (arith, l));
-      placed_is = λ ss m p. rw none;
-      looked_is = λ ss p. rw none;
-      enough = λ ss p. rw none (omega arith);
-    }
-
-module _ {marks : List ℕ} {receivers n : ℕ} {filled to : List ℕ} {h j k : ℕ}
-    (w : Walking marks receivers n filled to h j k) where
-  -- what a slot from j on holds is told by its mark
-  told_by : (ss : List Slot) (m : Message) → Marks ss marks → (x : ℕ) (b : Bool) → j ≤ x
-      → x < slot_count → eqb (get_or marks x 0) 0 ≡ b
-      → is_empty (get_or (stored k filled to m ss) x empty_slot).content ≡ b
-  told_by ss m p x b l u e =
-      ap (λ (s : Slot). is_empty s.content) (stored_above k j x filled to m ss w.below l)
-      ∙ sym (p.empty x u) ∙ e
+module _ {free : List Bool} {receivers n : ℕ} {p : Placed} {h j : ℕ}
+    (w : Walking free receivers n p h j) where
+  -- whether a slot from j on holds anything is told
+  told_by : (ss : List Slot) (m : Message) → Frees ss free → (x : ℕ) (b : Bool) → j ≤ x
+      → x < slot_count → get_or free x false ≡ b
+      → is_empty (get_or (stored p.count p.fills m ss) x empty_slot).content ≡ b
+  told_by ss m q x b l u e =
+      ap (λ (s : Slot). is_empty s.content) (stored_above p.count j x p.fills m ss w.below l)
+      ∙ sym (q.empty x u) ∙ e
 
   -- no receiver is left: all is placed
-  pub walking_done : n ≤ h → Fills marks receivers n filled to k j
+  pub walking_done : n ≤ h → Fills free receivers n (record p { looked = j })
   unfolding members_from placed_each looked_for
   walking_done b =
       let z : n - h ≡ 0 = omega arith in
       record {
         few = omega (arith, w.few, w.most);
         within = λ x l. omega (arith, w.below x l, w.places);
-        placed_is = λ ss m p. rw z at (w.placing ss m p).rest;
-        looked_is = λ ss p.
+        placed_is = λ ss m q. rw z at (w.placing ss m q).rest;
+        looked_is = λ ss q.
             let e : j + 0 ≡ looked_for (length (members n receivers)) ss =
-            rw z at (w.placing ss any p).looked in
+            rw z at (w.placing ss any q).looked in
             omega (arith, e);
-        enough = λ ss p.
-            let d = w.placing ss any p in
-            let e : k + 0 ≡ length (members n receivers) = rw z at d.due in
+        enough = λ ss q.
+            let d = w.placing ss any q in
+            let e : p.count + 0 ≡ length (members n receivers) = rw z at d.due in
             omega (arith, e, d.left);
       }
 
-  module _ (b : h < n) (at : ℕ) (q : NextEmpty marks j at) where
-    -- up to the next empty slot, or the last
-    reached : (ss : List Slot) (m : Message) → Marks ss marks
-        → Placing m ss (stored k filled to m ss) (members n receivers)
-        (h ∷ members_from receivers (h + 1) (n - (h + 1))) at k
-    reached ss m p =
-        let z : j + (at - j) ≡ at = omega (arith, q.passed.least) in
+  module _ (b : h < n) (at : ℕ) (q : Passed free j at) where
+    -- up to the next free slot, or the last
+    reached : (ss : List Slot) (m : Message) → Frees ss free
+        → Placing m ss (stored p.count p.fills m ss) (members n receivers)
+        (h ∷ members_from receivers (h + 1) (n - (h + 1))) at p.count
+    reached ss m r =
+        let z : j + (at - j) ≡ at = omega (arith, q.least) in
         rw z at
-        (placing_past (at - j) j (omega (arith, q.passed.least, q.passed.most))
+        (placing_past (at - j) j (omega (arith, q.least, q.most))
         (λ x u v.
-        told_by ss m p x false u (omega (arith, q.passed.least, q.passed.most))
-        (q.passed.taken x u (omega (arith, q.passed.least))))
-        (rw (members_step receivers h n b, w.member b) at (w.placing ss m p)))
+        told_by ss m r x false u (omega (arith, q.least, q.most))
+        (q.taken x u (omega (arith, q.least))))
+        (rw (members_step receivers h n b, w.member b) at (w.placing ss m r)))
 
     -- the slot that was found is remembered, and the walk goes on from there
-    pub walking_fills : at < slot_count → n ≤ 9
-        → Walking marks receivers n (set filled k at) (set to k h) (next_in receivers (h + 1) n)
-        (at + 1) (k + 1)
-    walking_fills l few =
+    pub walking_fills : at < slot_count → get_or free at false ≡ true → n ≤ 9
+        → Walking free receivers n (pushed p (record { slot = at; host = h }))
+        (next_in receivers (h + 1) n) (at + 1)
+    walking_fills l e few =
         let x = next_is receivers (h + 1) n (omega arith) in
-        let f : k < length filled = omega (arith, w.few, w.nines) in
-        let t : k < length to = omega (arith, w.few, w.nines) in
+        let f : p.count < length p.fills = omega (arith, w.few, w.nine) in
         record {
-          nines = (length-set filled k at ∙ w.nines.0, length-set to k h ∙ w.nines.1);
+          nine = length-set p.fills p.count _ ∙ w.nine;
           few = omega (arith, x.least, w.few);
           most = x.most;
           member = x.member;
-          below = λ y u. go y u (ℕ_discrete y k) f;
+          below = λ y u. go y u (ℕ_discrete y p.count) f;
           places = omega arith;
-          placing = λ ss m p.
-              rw (stored_next k at h filled to m ss f t, ← x.rest)
-              (placing_fill (reached ss m p) l
-              (told_by ss m p at true q.passed.least l (q.empty l)));
+          placing = λ ss m r.
+              rw (stored_next p.count (record { slot = at; host = h }) p.fills m ss f, ← x.rest)
+              (placing_fill (reached ss m r) l
+              (told_by ss m r at true q.least l e));
         }
       where
-        go : (y : ℕ) → y < k + 1 → Dec (y ≡ k) → k < length filled
-            → get_or (set filled k at) y 0 < at + 1
-        go y d (yes e) f = rw (e, get_or-set_same filled k at 0 f) (omega arith)
+        go : (y : ℕ) → y < p.count + 1 → Dec (y ≡ p.count) → p.count < length p.fills
+            → (get_or (set p.fills p.count (record { slot = at; host = h })) y no_fill).slot
+            < at + 1
+        go y d (yes e) f =
+            rw (e, get_or-set_same p.fills p.count (record { slot = at; host = h }) no_fill f)
+            (omega arith)
         go y d (no e) f =
-            rw (get_or-set_other filled k y at 0 e)
-            (omega (arith, w.below y (omega (arith, d, e)), q.passed.least))
+            rw (get_or-set_other p.fills p.count y (record { slot = at; host = h }) no_fill e)
+            (omega (arith, w.below y (omega (arith, d, e)), q.least))
 
-    -- a receiver is left, and no slot is empty
-    pub walking_ended : slot_count ≤ at → Lacks marks receivers n
+    -- a receiver is left, and no slot is free
+    pub walking_ended : slot_count ≤ at → Lacks free receivers n
     walking_ended l =
         record {
-          looked_is = λ ss p. (placing_ended (reached ss any p) l).0;
-          too_few = λ ss p. (placing_ended (reached ss any p) l).1;
+          looked_is = λ ss r. (placing_ended (reached ss any r) l).0;
+          too_few = λ ss r. (placing_ended (reached ss any r) l).1;
         }
 
 -- ---- what is to be filled, with room and without
 
-module _ (answer : ℕ) (marks : List ℕ) (receivers n : ℕ) (filled to : List ℕ) (r : Placed)
-    (w : Outcome answer marks receivers n filled to r)
+module _ (free : List Bool) (receivers n : ℕ) (r : Result Unit Refusal) (p : Placed)
+    (w : Outcome free receivers n r p)
   where
-    pub count_few : r.count ≤ n
+    pub count_few : p.count ≤ n
     unfolding Outcome
     count_few = ⊎_elim (λ x. x.1.few) (λ x. omega (arith, x.1.0)) w
 
-    pub filled_few : (x : ℕ) → x < r.count → get_or filled x 0 < slot_count
+    pub filled_few : (x : ℕ) → x < p.count → (get_or p.fills x no_fill).slot < slot_count
     unfolding Outcome
     filled_few x b = ⊎_elim (λ y. y.1.within x b) (λ y. absurd (omega (arith, b, y.1.0))) w

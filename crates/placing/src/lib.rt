@@ -1,204 +1,153 @@
-// The walk that places, over lent marks of the slots: which slots are to be filled, and for whom,
-// or that there is no room. It stores nothing but what it found.
-#![tactic(auto)]
+// The walk that places, over which of the slots are free: which slots are to be filled, and for
+// whom, or that there is no room. It stores nothing but what it found.
+#![tactic(auto, unfolding(
+// slots
+slots::specs::Slots::is_empty,
+// which of them are taken
+crate::specs::Parts::eight_taken, crate::specs::Parts::taken_from,
+// and the next that is not
+crate::specs::Parts::NextFree, crate::specs::Parts::with_freed),
+// where it is
+using(crate::proofs::Laws::passed_first,
+// or where a freed one is
+crate::proofs::Laws::freed_first, crate::proofs::Laws::freed_later))]
 
-ghost use Rattle.std.specs.Prelude.{◌≡◌, ◌<◌, ◌≤◌, eqb, length};
-ghost use Rattle.slots.specs.Slots.{is_empty};
-ghost use Rattle.placing.specs.Parts.{Marks, Passed, NextEmpty, Walks, Outcome, Nines};
-ghost use Rattle.placing.specs.Parts.{eight_taken, freed_in, marked_free};
+ghost use Rattle.std.specs.Prelude.{◌≡◌, ◌<◌, ◌≤◌, length, take};
+ghost use Rattle.placing.specs.Parts.{Frees, Passed, NextFree, Outcome};
+ghost use Rattle.placing.specs.Parts.{eight_taken, with_freed, pushed, nothing_placed};
 
-use base::REFUSED_FULL;
-use slots::{Content, SLOTS, Slot};
+use base::Refusal;
+use slots::{SLOTS, Slot};
 
-// The answer, how many slots are to be filled, and how many were looked at.
+// A slot that is to be filled, and the host that the message there is for.
+#[derive(Clone, Copy)]
+pub struct Fill {
+    pub slot: usize,
+    pub host: u8,
+}
+
+// The slots that are to be filled, and how many were looked at to find them. A vector of fixed room
+// would store its length, and read it again, for each slot: `place` counts in a local.
 #[derive(Clone, Copy)]
 pub struct Placed {
-    pub answer: u8,
+    pub fills: [Fill; 9],
     pub count: usize,
     pub looked: usize,
 }
 
-// What the walk found: whether there is room, how many slots are to be filled, and how many were
-// looked at.
-#[derive(Clone, Copy)]
-pub struct Walked {
-    pub fits: bool,
-    pub count: usize,
-    pub looked: usize,
-}
-
-// 0 for an empty slot, else 1.
-fn mark_of(c: Content) -> u8
-    ensures { eqb result 0 ≡ is_empty c }
+// Which of these slots are free.
+pub fn free_of(slots: &[Slot; 96]) -> [bool; 96]
+    ensures { Frees slots.now result }
 {
-    if slots::is_empty(c) {
-        return 0;
-    }
-    1
+    slots.map(|slot| slot.content.is_none())
 }
 
-// The marks of these slots.
-pub fn marks_of(slots: [Slot; 96]) -> [u8; 96]
-    requires { length slots ≡ 96 }
-    ensures { Marks slots result }
+// Whether there are eight slots from one on, and none of them is free. By `|`, which reads all of
+// them at once: one by one, as `contains` asks, 13 with every slot in use took 1.1 of the model,
+// above the mark of 1.0 of perf/events (docs/PERFORMANCE.md).
+fn eight_taken(free: &[bool; 96], j: usize) -> bool
+    requires { j ≤ 96 }
+    ensures { result ≡ eight_taken free.now j }
 {
-    let mut marks: [u8; 96] = [0; 96];
-    let mut i: usize = 0;
-    while i < SLOTS {
-        let held = slots[i];
-        let content = held.content;
-        marks[i] = mark_of(content);
-        i += 1;
-    }
-    marks
+    j + 8 <= SLOTS
+        && !(free[j]
+            | free[j + 1]
+            | free[j + 2]
+            | free[j + 3]
+            | free[j + 4]
+            | free[j + 5]
+            | free[j + 6]
+            | free[j + 7])
 }
 
-// Whether there are eight slots from one on, and all of them are taken.
-fn eight_taken(marks: &[u8; 96], j: usize) -> bool
-    requires { (j ≤ 96) × (length marks.now ≡ 96) }
-    ensures { result ≡ eight_taken marks.now j }
-{
-    if SLOTS < j + 8 {
-        return false;
-    }
-    (marks[j] != 0)
-        & (marks[j + 1] != 0)
-        & (marks[j + 2] != 0)
-        & (marks[j + 3] != 0)
-        & (marks[j + 4] != 0)
-        & (marks[j + 5] != 0)
-        & (marks[j + 6] != 0)
-        & (marks[j + 7] != 0)
-}
-
-// From one slot on past those that are taken, eight at a time.
-fn past_eights(marks: &[u8; 96], from: usize) -> usize
-    requires { (from ≤ 96) × (length marks.now ≡ 96) }
-    ensures { Passed marks.now from result }
+// From one slot on past those that are taken, eight at a time: a `while`, since where it ends is
+// asked for, and not an element.
+fn past_eights(free: &[bool; 96], from: usize) -> usize
+    requires { from ≤ 96 }
+    ensures { Passed free.now from result }
 {
     let mut j = from;
-    while eight_taken(marks, j) {
+    while eight_taken(free, j) {
         j += 8;
     }
     j
 }
 
-// The first slot from one on that is empty; 96 where none is. Most often it is that one.
-fn next_empty(marks: &[u8; 96], from: usize) -> usize
-    requires { (from ≤ 96) × (length marks.now ≡ 96) }
-    ensures { NextEmpty marks.now from result }
+// The first slot from one on that is free. Most often it is that one.
+fn next_free(free: &[bool; 96], from: usize) -> Option<usize>
+    requires { from ≤ 96 }
+    ensures { NextFree free.now from result }
 {
-    if from < SLOTS {
-        if marks[from] == 0 {
-            return from;
-        }
+    if from < SLOTS && free[from] {
+        return Some(from);
     }
-    let mut j = past_eights(marks, from);
-    while j < SLOTS {
-        if marks[j] == 0 {
-            return j;
-        }
-        j += 1;
-    }
-    j
+    (past_eights(free, from)..SLOTS).find(|&j| free[j])
 }
 
-// The same where one slot is freed: that one, where the walk meets it before an empty one.
-fn next_free(marks: &[u8; 96], freed: usize, from: usize) -> usize
-    requires { (from ≤ 96) × (length marks.now ≡ 96) }
-    ensures { NextEmpty (marked_free freed marks.now) from result }
+// The same where a slot may be freed: that one, where the walk meets it first.
+fn next_or_freed(free: &[bool; 96], freed: Option<usize>, from: usize) -> Option<usize>
+    requires { from ≤ 96 }
+    ensures { NextFree (with_freed freed free.now) from result }
 {
-    let at = next_empty(marks, from);
-    if (from <= freed) & (freed < at) {
-        return freed;
-    }
-    at
-}
-
-// The slot that an event frees, for the walk; 96, which is none, where it frees none.
-fn freed_in(frees: bool, i: usize) -> usize
-    ensures { result ≡ freed_in frees i }
-{
-    if frees {
-        return i;
-    }
-    SLOTS
-}
-
-// For each receiver the lowest empty slot: one walk, which goes on from the slot just found.
-fn walk(
-    marks: &[u8; 96],
-    freed: usize,
-    receivers: u16,
-    n: u8,
-    filled: &mut [usize; 9],
-    to: &mut [u8; 9],
-) -> Walked
-    requires { ((n ≤ 9) × Nines filled.old to.old) × (length marks.now ≡ 96) }
-    ensures { Nines filled.new to.new
-        × Walks (marked_free freed marks.now) receivers n filled.new
-        to.new result }
-{
-    let mut h = quorum::next_in(receivers, 0, n);
-    let mut j: usize = 0;
-    let mut k: usize = 0;
-    while h < n {
-        let at = next_free(marks, freed, j);
-        if SLOTS <= at {
-            return Walked {
-                fits: false,
-                count: 0,
-                looked: SLOTS,
-            };
-        }
-        filled[k] = at;
-        to[k] = h;
-        k += 1;
-        j = at + 1;
-        h = quorum::next_in(receivers, h + 1, n);
-    }
-    Walked {
-        fits: true,
-        count: k,
-        looked: j,
+    let at = next_free(free, from);
+    match freed {
+        Some(i) if from <= i && i < at.unwrap_or(SLOTS) => freed,
+        _ => at,
     }
 }
 
-// Where what an event sends is to go, and its answer then: that of before, or 13 without room. A
-// slot that the event frees is empty for the walk.
-pub fn place(
-    answer: u8,
-    marks: &[u8; 96],
-    frees: bool,
-    i: usize,
-    receivers: u16,
-    n: u8,
-    filled: &mut [usize; 9],
-    to: &mut [u8; 9],
-) -> Placed
-    requires { ((n ≤ 9) × Nines filled.old to.old) × (length marks.now ≡ 96) }
-    ensures { Nines filled.new to.new
-        × Outcome answer (marked_free (freed_in frees i) marks.now) receivers n
-        filled.new to.new result }
-{
-    if receivers == 0 {
-        return Placed {
-            answer,
+impl Placed {
+    // Nothing to be filled.
+    pub fn nothing() -> Placed
+        ensures { result ≡ nothing_placed }
+    {
+        Placed {
+            fills: [Fill { slot: 0, host: 0 }; 9],
             count: 0,
             looked: 0,
-        };
+        }
     }
-    let found = walk(marks, freed_in(frees, i), receivers, n, filled, to);
-    if found.fits {
-        return Placed {
-            answer,
-            count: found.count,
-            looked: found.looked,
-        };
+
+    // The slots to be filled, in their order.
+    pub fn fills(&self) -> &[Fill]
+        requires { self.now.count ≤ 9 }
+        ensures those { result.now ≡ take self.now.count self.now.fills }
+        ensures many { length result.now ≡ self.now.count }
+    {
+        &self.fills[..self.count]
     }
-    Placed {
-        answer: REFUSED_FULL,
-        count: 0,
-        looked: SLOTS,
+
+    // Where what an event sends is to go, for each receiver the lowest free slot; 13 without room.
+    // One walk, which goes on from the slot just found. A slot that the event frees is free for it.
+    // It goes from receiver to receiver by `next_in`, as its law is told: a `for` over all hosts
+    // would ask of each whether it is one.
+    pub fn place(
+        &mut self,
+        free: &[bool; 96],
+        freed: Option<usize>,
+        receivers: u16,
+        n: u8,
+    ) -> Result<(), Refusal>
+        requires { n ≤ 9 }
+        ensures { Outcome (with_freed freed free.now) receivers n result self.new }
+    {
+        let mut h = quorum::next_in(receivers, 0, n);
+        let mut j = 0;
+        // Counted apart: the count of the struct is stored and read again for each slot.
+        let mut k = 0;
+        while h < n {
+            let Some(at) = next_or_freed(free, freed, j) else {
+                self.looked = SLOTS;
+                self.count = 0;
+                return Err(Refusal::Full);
+            };
+            self.fills[k] = Fill { slot: at, host: h };
+            k += 1;
+            j = at + 1;
+            h = quorum::next_in(receivers, h + 1, n);
+        }
+        self.looked = j;
+        self.count = k;
+        Ok(())
     }
 }

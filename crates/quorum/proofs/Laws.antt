@@ -3,48 +3,29 @@
 use mathlib.Core.Path.{◌≡◌, refl, sym, ap, ◌∙◌}
 use mathlib.Core.Bool.{Bool, true, false, cond, ◌||◌}
 use mathlib.Core.List.{List, [], ◌∷◌}
-use Prim.Native.Nat.{ℕ, zero, suc, ◌+◌, ◌-◌, ◌*◌, ◌/◌, ◌%◌, ◌^◌, ◌≤◌, ◌<◌}
-use native.Mathlib.Nat.{one-mul, mod-lt, div_self, div-eq_of_lt, div-one, mul-mod_left, zero-div}
+use Prim.Native.Nat.{ℕ, zero, suc, ◌+◌, ◌-◌, ◌/◌, ◌%◌, ◌^◌, ◌≤◌, ◌<◌}
+use native.Mathlib.Nat.{mod-lt, div-eq_of_lt, div-one, zero-div}
 use native.Mathlib.Decide.{dec_lt, ℕ_discrete}
 use native.Mathlib.Omega.{arith}
 use lib.Count.{ones, ones_in, ones_step}
-use lib.Dec.{lit<, eqb}
+use lib.Dec.{lit<, eqb, ltb}
 use lib.ListN.{length}
-use lib.Pow.{shl_exact, shl-shr, shr-shr, pow_pos, pow_mono, pow-lt, pow-add}
+use lib.Pow.{shr-shr, pow_mono, pow-lt}
 use borrow.Author.Tests.{ltb-true, eqb-true, lt-ltb, eq-eqb, ne_eqb}
+use Rattle.std.proofs.lemmas.Nat.Bits.{bit_at-suc, bit_at-pow_same, bit_at-pow_other}
 use Rattle.base.specs.Lists.{All}
 use Rattle.base.proofs.Tests.{true_false}
 use Rattle.quorum.specs.Sets.{Member, bit, is_in, single_of, is_below, is_only, members_from}
 use Rattle.quorum.specs.Sets.{members}
 
--- a bit of a `u16` by a shift
-pub shifted : (i : ℕ) → i < 16 → (1 * 2 ^ i) % 2 ^ 16 ≡ 2 ^ i
-shifted i h = shl_exact {a = 1} 1 i 16 (lit< tt) (omega arith) ∙ one-mul (2 ^ i)
+-- a `u16` is below 2^n from n = 16 on, and so not one host's set
+pub below_beyond : (s n : ℕ) → s < 2 ^ 16 → 16 ≤ n → ltb s (2 ^ n) ≡ true
+below_beyond s n h k = lt-ltb s (2 ^ n) (omega (arith, pow_mono {i = 16} {j = n} k))
 
-pub bit_le : (s i : ℕ) → bit s i < 2
-bit_le s i = mod-lt (s / 2 ^ i) (lit< tt)
-
-pub bit_next : (s i : ℕ) → bit (s / 2) i ≡ bit s (suc i)
-bit_next s i = ap (λ (x : ℕ). x % 2) (shr-shr s 1 i ∙ ap (λ (k : ℕ). s / 2 ^ k) (omega arith))
-
--- ---- the set of one host
-
-pub single_same : (i : ℕ) → bit (single_of i) i ≡ 1
-single_same i = ap (λ (x : ℕ). x % 2) (div_self (pow_pos i))
-
-pub single_other : (h i : ℕ) → (h ≡ i → ⊥) → bit (single_of h) i ≡ 0
-single_other h i e = go (dec_lt h i)
-  where
-    go : Dec (h < i) → bit (2 ^ h) i ≡ 0
-    go (yes p) = ap (λ (x : ℕ). x % 2) (div-eq_of_lt (pow-lt p))
-    go (no q) =
-        let j : ℕ = h - i - 1 in
-        let eh : h ≡ (j + 1) + i = omega arith in
-        ap (λ (m : ℕ). 2 ^ m / 2 ^ i % 2) eh
-        ∙ ap (λ (x : ℕ). x / 2 ^ i % 2) (pow-add 2 (j + 1) i)
-        ∙ ap (λ (x : ℕ). x % 2) (shl-shr (2 ^ (j + 1)) i)
-        ∙ ap (λ (x : ℕ). x % 2) (pow-add 2 j 1)
-        ∙ mul-mod_left (2 ^ j) 2
+pub other_beyond : (s n : ℕ) → s < 2 ^ 16 → 16 ≤ n → eqb s (2 ^ n) ≡ false
+other_beyond s n h k =
+    let p = pow_mono {i = 16} {j = n} k in
+    ne_eqb s (2 ^ n) (λ e. omega arith)
 
 -- ---- what the hosts that a set names tell of it
 
@@ -58,7 +39,7 @@ some_named (suc w) set l p =
         → (h : ℕ) × (bit set h ≡ 1)
     go zero e b f =
         let r = f (omega arith) in
-        (suc r.0, sym (bit_next set r.0) ∙ r.1)
+        (suc r.0, bit_at-suc set r.0 ∙ r.1)
     go (suc zero) e b f = (0, rw (div-one set) e)
     go (suc (suc j)) e b f = absurd (omega arith)
 
@@ -77,7 +58,7 @@ bits_below zero set f = go (dec_lt 0 set)
         absurd (omega (arith, f r.0 r.1))
     go (no q) = omega arith
 bits_below (suc n) set f =
-    let r = bits_below n (set / 2) (λ h e. omega (arith, f (suc h) (sym (bit_next set h) ∙ e))) in
+    let r = bits_below n (set / 2) (λ h e. omega (arith, f (suc h) (bit_at-suc set h ∙ e))) in
     omega arith
 
 -- a set whose hosts are all h
@@ -91,7 +72,7 @@ bits_single (suc h) set p f = go (set % 2) refl (mod-lt set (lit< tt)) (bits_sin
         → (0 < set / 2 → ((i : ℕ) → bit (set / 2) i ≡ 1 → i ≡ h) → set / 2 ≡ 2 ^ h)
         → set ≡ 2 ^ suc h
     go zero e b g =
-        let r = g (omega arith) (λ i q. omega (arith, f (suc i) (sym (bit_next set i) ∙ q))) in
+        let r = g (omega arith) (λ i q. omega (arith, f (suc i) (bit_at-suc set i ∙ q))) in
         omega arith
     go (suc zero) e b g = absurd (omega (arith, f 0 (rw (div-one set) e)))
     go (suc (suc j)) e b g = absurd (omega arith)
@@ -128,7 +109,7 @@ only_one set h i o m = go (eqb set 0) (eqb set (single_of h)) refl refl o (ℕ_d
         absurd (omega (arith, one))
     go false true p q o (no e) =
         let z : bit set i ≡ 0 = ap (λ (s : ℕ). bit s i) (eqb-true set (single_of h) q)
-        ∙ single_other h i e in
+        ∙ bit_at-pow_other h i (λ d. e (sym d)) in
         absurd (omega (arith, one))
     go false false p q o (no e) = true_false (sym o)
 
@@ -250,12 +231,12 @@ members_lone t h (suc k) a b =
         → cond (is_in (single_of t) h) (h ∷ members_from (single_of t) (suc h) k)
         (members_from (single_of t) (suc h) k) ≡ t ∷ []
     go (yes e) f =
-        let one : bit (single_of t) h ≡ 1 = rw e (single_same h) in
+        let one : bit (single_of t) h ≡ 1 = rw e (bit_at-pow_same h) in
         let none =
         members_none (single_of t) (suc h) k
         (div-eq_of_lt (pow-lt {i = t} {j = suc h} (omega arith))) in
         rw (one, none, e)
-    go (no d) f = rw (single_other t h d) (f d)
+    go (no d) f = rw (bit_at-pow_other t h (λ e. d (sym e))) (f d)
 
 pub members_single : (n t : ℕ) → t < n → members n (single_of t) ≡ t ∷ []
 members_single n t b = members_lone t 0 n (omega arith) (omega arith)

@@ -1,9 +1,9 @@
-// The reader that keeps the lent run file and its place in it. Each method takes the struct apart
-// and asks a function on a slice and a number; `read_at` has plain parameters, so that whoever
-// calls it holds no Reader.
+// The reader that keeps the lent run file and its place in it, with thin methods over the functions
+// on slice and number: the form that document 01 names.
 #![tactic(auto)]
 
 ghost use Rattle.std.specs.Prelude.{◌≡◌};
+ghost use Rattle.record.specs.Read.{numbered_record};
 ghost use Rattle.record.specs.Record.{record_at};
 
 use record::Record;
@@ -17,10 +17,10 @@ pub struct Reader<'a> {
 
 impl<'a> Reader<'a> {
     // A reader at an offset.
-    pub fn new(run: &'a [u8], at: usize) -> Reader<'a>
+    pub fn new(run: &'a [u8], at: usize) -> Self
         ensures { (result.run ≡ run.entry) × (result.at ≡ at) }
     {
-        Reader { run, at }
+        Self { run, at }
     }
 
     // Its offset.
@@ -32,22 +32,22 @@ impl<'a> Reader<'a> {
 
     // What stands at the reader's place.
     pub fn next(self) -> Record
-        ensures { result ≡ record_at self.entry.run.now self.entry.at }
+        ensures { numbered_record result ≡ record_at self.entry.run.now self.entry.at }
     {
         record::record_at(self.run, self.at)
     }
 
     // The same file, at another offset.
-    pub fn moved(self, at: usize) -> Reader<'a>
+    pub fn moved(self, at: usize) -> Self
         ensures { (result.run ≡ self.entry.run) × (result.at ≡ at) }
     {
-        Reader { run: self.run, at }
+        Self { at, ..self }
     }
 }
 
-// The record at an offset, through a reader.
+// The record at an offset, through a reader; whoever calls it holds no Reader.
 pub fn read_at(run: &[u8], at: usize) -> Record
-    ensures { result ≡ record_at run.now at }
+    ensures { numbered_record result ≡ record_at run.now at }
 {
     Reader::new(run, at).next()
 }

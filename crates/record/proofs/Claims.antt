@@ -6,8 +6,8 @@ use Rattle.wire.specs.Wire.{number_at, total, numbers_at}
 use Rattle.message.specs.Message.{last_tick}
 use Rattle.layout.specs.Layout.{offset_in}
 use Rattle.state.specs.StateLimits.{last_longest}
-use Rattle.record.specs.Record.{is_allowed, widths_of, record_length, record_fault}
-use Rattle.record.specs.Record.{fault_offset, field_offset, head_of, event_with, record_at}
+use Rattle.record.specs.Record.{record_fault}
+use Rattle.record.specs.Record.{fault_offset, record_at}
 use Rattle.record.specs.Record.{first_record, opening_offset}
 use Rattle.record.specs.Claims.{Claims}
 use Rattle.record.proofs.Laws.{settings_again, settings_missing, too_short, too_long}
@@ -17,8 +17,8 @@ use Rattle.record.proofs.Offsets.{offset_given, offset_lowest, offset_cut, offse
 use Rattle.record.proofs.Offsets.{opening_given, opening_lowest}
 
 pub claims : Claims
-unfolding first_of tests_in fails_at all_of number_at total numbers_at is_allowed widths_of
-    record_length record_fault fault_offset field_offset head_of event_with record_at first_record
+unfolding first_of tests_in fails_at all_of number_at total numbers_at
+    record_fault fault_offset record_at first_record
     opening_offset offset_in last_longest last_tick
 claims = record {
   lengths = refl;

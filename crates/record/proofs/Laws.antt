@@ -1,35 +1,37 @@
 -- Laws of the records: their lengths, what one that is not refused tells, that it is read alike in
--- a longer file and in a shorter one, and of a T that opening refuses. Assumes nothing.
+-- a longer file and in a shorter one, and what is tested of one, in its order. Assumes nothing.
 use mathlib.Core.Path.{◌≡◌, refl, sym, ap, ◌∙◌}
-use mathlib.Core.Bool.{Bool, true, false, cond, ◌||◌}
+use mathlib.Core.Bool.{Bool, true, false, cond, ◌&&◌}
 use mathlib.Core.List.{List, [], ◌∷◌, ◌++◌}
-use Prim.Native.Nat.{ℕ, ◌+◌, ◌≤◌, ◌<◌}
+use Prim.Native.Nat.{ℕ, ◌+◌, ◌^◌, ◌≤◌, ◌<◌}
 use native.Mathlib.Nat.{min-le_left, le-min}
 use native.Mathlib.Omega.{arith}
-use lib.ListN.{length, get_or, take, drop, length-append, length-take, take-append-drop}
+use lib.ListN.{length, take, drop, length-append, length-take, take-append-drop}
 use lib.Dec.{lit<, lit≤, ltb, leb, eqb}
-use borrow.Author.Tests.{ltb-true, ltb-false, leb-true, eqb-true, lt-ltb, le-ltb, le-leb}
-use borrow.Author.Tests.{lt-leb, ne_eqb}
+use borrow.Author.Tests.{leb-true, eqb-true, lt-ltb, le-ltb, le-leb, ne_eqb}
+use borrow.Author.Rules.{rules}
+use Rattle.base.specs.declared.Refusal.{Refusal}
+use Rattle.base.specs.Answers.{refusal_number}
 use Rattle.base.specs.Refusals.{done, refused_cut, refused_kind, refused_length, refused_short}
 use Rattle.base.specs.Refusals.{first_of, answer_by, tests_in, fails_at}
 use Rattle.base.specs.Lists.{all_of}
-use Rattle.base.proofs.Tests.{true_false, by_test, unless_passed}
-use Rattle.wire.specs.Wire.{number_at, total, numbers_at}
+use Rattle.base.proofs.Tests.{by_test, unless_passed}
+use Rattle.wire.specs.Wire.{total}
 use Rattle.wire.proofs.Laws.{number_within, numbers_within}
-use Rattle.layout.specs.Layout.{length_offset, kind_offset, fore_length}
+use Rattle.quorum.specs.Sets.{cell_fits}
+use Rattle.message.specs.Message.{last_tick}
+use Rattle.layout.specs.Layout.{offset_in, length_offset, kind_offset, fore_length}
 use Rattle.layout.proofs.Laws.{short_refused, long_refused}
 use Rattle.state.specs.declared.Settings.{Settings}
 use Rattle.state.specs.StateLimits.{last_longest}
 use Rattle.cell.specs.declared.Event.{Event}
 use Rattle.cell.specs.declared.Event.TheVariants.{AdvanceAll, AdvanceOne, Start, Deliver}
 use Rattle.cell.specs.declared.Event.TheVariants.{Lose, Repeat, Restart, Release}
-use Rattle.record.specs.declared.Head.{Head}
-use Rattle.record.specs.declared.Record.{Record}
-use Rattle.record.specs.declared.First.{First}
+use Rattle.record.specs.Read.{Head, Record, First}
 use Rattle.record.specs.Record.{settings_kind, advance_all_kind, start_kind, kind_of, is_allowed}
 use Rattle.record.specs.Record.{widths_of, record_length, left_at, told_length_at, told_kind_at}
 use Rattle.record.specs.Record.{record_refusals, record_fault, fault_offset, head_of, values_at}
-use Rattle.record.specs.Record.{record_with, record_at, first_with, first_record}
+use Rattle.record.specs.Record.{record_with, record_at, first_with, first_record, opening_offset}
 
 -- ---- kinds and lengths
 
@@ -47,7 +49,6 @@ kind_small (Release h) = lit< tt
 -- what holds of the four forms of a record holds of each kind's
 by_form : (P : List ℕ → Type 0) (k : ℕ) → P (1 ∷ 4 ∷ 4 ∷ 8 ∷ []) → P (4 ∷ []) → P (1 ∷ 4 ∷ [])
     → P (1 ∷ []) → P (widths_of k)
-unfolding widths_of
 by_form P k a b c d =
     by_test P (eqb k settings_kind) _ _ (λ _. a)
     (λ _.
@@ -55,28 +56,14 @@ by_form P k a b c d =
     (λ _. by_test P (leb k start_kind) _ _ (λ _. c) (λ _. d)))
 
 pub length_least : (k : ℕ) → 5 ≤ record_length k
-unfolding record_length total
+unfolding total
 length_least k =
     by_form (λ ws. 5 ≤ fore_length + total ws) k (lit≤ tt) (lit≤ tt) (lit≤ tt) (lit≤ tt)
 
 pub length_most : (k : ℕ) → record_length k ≤ 21
-unfolding record_length total
+unfolding total
 length_most k =
     by_form (λ ws. fore_length + total ws ≤ 21) k (lit≤ tt) (lit≤ tt) (lit≤ tt) (lit≤ tt)
-
--- in every record but an advance of all the first field is one byte
-pub first_value : (s : List ℕ) (at k : ℕ) → eqb k advance_all_kind ≡ false
-    → get_or (values_at s at k) 0 0 ≡ number_at s (at + fore_length) 1
-unfolding widths_of numbers_at
-first_value s at k n =
-    let P : List ℕ → Type 0 =
-    λ ws. get_or (numbers_at s (at + fore_length) ws) 0 0 ≡ number_at s (at + fore_length) 1 in
-    by_test P (eqb k settings_kind) _ _ (λ _. refl)
-    (λ _. rw n (by_test P (leb k start_kind) _ _ (λ _. refl) (λ _. refl)))
-
--- ticks stand after a host
-pub after_host : (at : ℕ) → at + fore_length + 1 ≡ at + 5
-after_host at = omega arith
 
 -- ---- a record that is not refused
 
@@ -108,7 +95,6 @@ fault_passed first s at e =
 
 pub head_whole : (first : Bool) (s : List ℕ) (at k n : ℕ) → head_of first s at ≡ Head.Whole k n
     → WholeAt first s at k n
-unfolding head_of
 head_whole first s at k n e =
     let f = record_fault first s at in
     go f (fault_offset first s at) (fault_passed first s at) (eqb f done) refl e
@@ -163,7 +149,7 @@ record_next s at e next r =
 
 -- a first record that is whole has 21 bytes
 pub first_whole : (s : List ℕ) (k n : ℕ) → head_of true s 0 ≡ Head.Whole k n → 21 ≤ length s
-unfolding is_allowed record_length widths_of total
+unfolding total
 first_whole s k n e =
     let w = head_whole true s 0 k n e in
     let l = rw (eqb-true k settings_kind w.allowed) at w.there in
@@ -183,12 +169,12 @@ first_there s g clock r = go (head_of true s 0) refl r
 
 pub settings_again : (s : List ℕ) (at : ℕ) → fore_length ≤ left_at s at
     → told_kind_at s at ≡ settings_kind → record_fault false s at ≡ refused_kind
-unfolding record_fault first_of all_of is_allowed
+unfolding record_fault first_of all_of
 settings_again s at l e = rw (le-leb fore_length (left_at s at) l, e)
 
 pub settings_missing : (s : List ℕ) (at : ℕ) → fore_length ≤ left_at s at
     → (told_kind_at s at ≡ settings_kind → ⊥) → record_fault true s at ≡ refused_kind
-unfolding record_fault first_of all_of is_allowed
+unfolding record_fault first_of all_of
 settings_missing s at l n =
     rw (le-leb fore_length (left_at s at) l, ne_eqb (told_kind_at s at) settings_kind n)
 
@@ -224,7 +210,6 @@ kind_within p q at l = number_within p q (at + kind_offset) 2 (omega arith)
 
 values_within : (p q : List ℕ) (at k : ℕ) → at + record_length k ≤ length p
     → values_at (p ++ q) at k ≡ values_at p at k
-unfolding record_length
 values_within p q at k l = numbers_within p q (at + fore_length) (widths_of k) (omega arith)
 
 left_within : (p q : List ℕ) (at n : ℕ) → at + n ≤ length p
@@ -249,7 +234,6 @@ fault_within first p q at w =
 
 head_within : (first : Bool) (p q : List ℕ) (at : ℕ) → Within p at
     → head_of first (p ++ q) at ≡ head_of first p at
-unfolding head_of
 head_within first p q at w =
     let f = fault_within first p q at w in
     rw (f.0, f.1, kind_within p q at w.fore)
@@ -329,28 +313,33 @@ first_shorter s g clock p r m =
     let l : 21 ≤ length a = length_cut s 21 p (first_there s g clock r) m in
     sym (first_within a (drop p s) l) ∙ ap first_record (take-append-drop p s) ∙ r
 
--- ---- settings that opening refuses
+-- ---- what is tested, one thing after the other
 
--- T is below 1 or above its limit, or it is neither
-pub longest_refused : (t x y : ℕ) → (ltb t 1 || ltb last_longest t) ≡ true
-    → cond (leb 1 t) (cond (leb t last_longest) x y) y ≡ y
-longest_refused t x y e = go (ltb t 1) refl e
-  where
-    go : (b : Bool) → ltb t 1 ≡ b → (b || ltb last_longest t) ≡ true
-        → cond (leb 1 t) (cond (leb t last_longest) x y) y ≡ y
-    go true p q = rw (lt-leb 1 t (ltb-true t 1 p))
-    go false p q =
-        rw (
-          le-leb 1 t (ltb-false t 1 p),
-          lt-leb t last_longest (ltb-true last_longest t q),
-        )
+-- four bytes, the kind, the length and the record's bytes
+pub head_steps : (first : Bool) (s : List ℕ) (at : ℕ)
+    → let left = left_at s at in
+    let kind = told_kind_at s at in
+    let len = record_length kind in
+    let told = told_length_at s at in
+    let cut = Head.Fault (refusal_number Refusal.Cut) left in
+    head_of first s at
+    ≡ cond (leb fore_length left)
+    (cond (is_allowed first kind)
+    (cond (leb len told)
+    (cond (leb told len)
+    (cond (leb len left) (Head.Whole kind (at + len)) cut)
+    (Head.Fault (refusal_number Refusal.Length) length_offset))
+    (Head.Fault (refusal_number Refusal.Short) length_offset))
+    (Head.Fault (refusal_number Refusal.Kind) kind_offset))
+    cut
+unfolding record_fault fault_offset first_of all_of tests_in fails_at offset_in refusal_number
+head_steps first s at = search rules
 
-pub longest_fits : (t : ℕ) → (ltb t 1 || ltb last_longest t) ≡ false
-    → (leb 1 t ≡ true) × (leb t last_longest ≡ true)
-longest_fits t e = go (ltb t 1) refl e
-  where
-    go : (b : Bool) → ltb t 1 ≡ b → (b || ltb last_longest t) ≡ false
-        → (leb 1 t ≡ true) × (leb t last_longest ≡ true)
-    go true p q = true_false q
-    go false p q =
-        (le-leb 1 t (ltb-false t 1 p), le-leb t last_longest (ltb-false last_longest t q))
+-- n, T, S and the clock
+pub opening_steps : (g : Settings) (clock : ℕ)
+    → opening_offset g clock
+    ≡ cond (cell_fits g.n)
+    (cond (leb 1 g.longest && leb g.longest (2 ^ 31))
+    (cond (ltb g.spread g.longest) (cond (leb clock (2 ^ 48)) 0 13) 9) 5) 4
+unfolding opening_offset tests_in fails_at total last_longest last_tick
+opening_steps g clock = grind (arith, rules)

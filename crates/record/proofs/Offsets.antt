@@ -22,7 +22,7 @@ use Rattle.layout.specs.Layout.{offset_in, fore_length}
 use Rattle.state.specs.declared.Settings.{Settings}
 use Rattle.state.specs.StateLimits.{opening_clock, settings_tests}
 use Rattle.cell.specs.Events.{opening_refusals, opening_refusal}
-use Rattle.record.specs.Record.{is_allowed, widths_of, record_length, field_offset, left_at}
+use Rattle.record.specs.Record.{is_allowed, record_length, left_at}
 use Rattle.record.specs.Record.{told_length_at, told_kind_at, record_refusals, record_fault}
 use Rattle.record.specs.Record.{fault_offset, opening_place, opening_offset}
 use Rattle.record.specs.Claims.{places_at}
@@ -122,7 +122,7 @@ module _ (first : Bool) (s : List ℕ) (at : ℕ) where
 
 -- n, T, T and S stand at rising places
 settings_rise : (g : Settings) → Rising opening_place 0 21 (settings_tests g)
-unfolding Rising field_offset widths_of total
+unfolding Rising total
 settings_rise g = inr (
   lit≤ tt,
   (lit< tt, inr (lit≤ tt, (lit< tt, inr (lit≤ tt, (lit< tt, inr (lit≤ tt, (lit< tt, tt))))))),

@@ -10,8 +10,7 @@ use Rattle.cell.specs.declared.Event.{Event}
 use Rattle.cell.specs.declared.Event.TheVariants.{AdvanceAll, AdvanceOne, Start, Deliver}
 use Rattle.cell.specs.declared.Event.TheVariants.{Lose, Repeat, Restart, Release}
 use Rattle.cell.specs.Events.{opening_refusals, opening_refusal}
-use Rattle.record.specs.declared.Record.{Record}
-use Rattle.record.specs.declared.First.{First}
+use Rattle.record.specs.Read.{Record, First}
 use Rattle.record.specs.Record.{settings_kind, is_allowed, record_length, left_at, told_length_at}
 use Rattle.record.specs.Record.{told_kind_at, record_refusals, record_fault, fault_offset}
 use Rattle.record.specs.Record.{record_at, first_record, opening_place, opening_offset}

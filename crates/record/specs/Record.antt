@@ -15,9 +15,7 @@ use Rattle.cell.specs.declared.Event.{Event}
 use Rattle.cell.specs.declared.Event.TheVariants.{AdvanceAll, AdvanceOne, Start, Deliver}
 use Rattle.cell.specs.declared.Event.TheVariants.{Lose, Repeat, Restart, Release}
 use Rattle.cell.specs.Events.{opening_refusals}
-use Rattle.record.specs.declared.Head.{Head}
-use Rattle.record.specs.declared.Record.{Record}
-use Rattle.record.specs.declared.First.{First}
+use Rattle.record.specs.Read.{Head, Record, First}
 
 -- ---- kinds
 
@@ -60,23 +58,23 @@ kind_of (Restart h) = restart_kind
 kind_of (Release h) = release_kind
 
 -- settings stand first, and only there; events after them
-unfoldable pub is_allowed : Bool → ℕ → Bool
+abbrev pub is_allowed : Bool → ℕ → Bool
 is_allowed first k = cond first (eqb k settings_kind) (leb advance_all_kind k && leb k release_kind)
 
 -- how many bytes each field takes after the first two: n, T, S and clock; ticks; a host and ticks;
 -- a host or a slot
-unfoldable pub widths_of : ℕ → List ℕ
+abbrev pub widths_of : ℕ → List ℕ
 widths_of k =
     cond (eqb k settings_kind) (1 ∷ 4 ∷ 4 ∷ 8 ∷ [])
     (cond (eqb k advance_all_kind) (4 ∷ [])
     (cond (leb k start_kind) (1 ∷ 4 ∷ []) (1 ∷ [])))
 
 -- the length of a kind's records
-unfoldable pub record_length : ℕ → ℕ
+abbrev pub record_length : ℕ → ℕ
 record_length k = fore_length + total (widths_of k)
 
 -- where field i of a kind's records stands, from 0 after the first two
-unfoldable pub field_offset : ℕ → ℕ → ℕ
+abbrev pub field_offset : ℕ → ℕ → ℕ
 field_offset k i = fore_length + total (take i (widths_of k))
 
 -- ---- what is refused in the record at an offset
@@ -111,7 +109,7 @@ fault_offset first s at =
     place_by (place_in (left_at s at) (told_kind_at s at)) (record_refusals first s at)
 
 -- its kind and the offset past it, or its fault
-unfoldable pub head_of : Bool → List ℕ → ℕ → Head
+abbrev pub head_of : Bool → List ℕ → ℕ → Head
 head_of first s at =
     let f = record_fault first s at in
     let kind = told_kind_at s at in
@@ -125,7 +123,7 @@ abbrev pub values_at : List ℕ → ℕ → ℕ → List ℕ
 values_at s at k = numbers_at s (at + fore_length) (widths_of k)
 
 -- the event of a kind whose fields have these numbers
-unfoldable pub event_with : ℕ → List ℕ → Event
+abbrev pub event_with : ℕ → List ℕ → Event
 event_with k vs =
     let one = get_or vs 0 0 in
     let two = get_or vs 1 0 in

@@ -1,18 +1,14 @@
 -- The leaf rules of a host, in document 01's order, with document 02's changes, each with the
 -- sentence it stands for. Assumes nothing.
 use Rattle.std.specs.Prelude.{ℕ, ◌+◌, Bool, true, false, cond, not, ◌&&◌, ltb, leb, eqb}
+use Rattle.std.specs.Prelude.{Option, Some, None}
 use Rattle.quorum.specs.Sets.{is_in, is_majority}
 use Rattle.message.specs.declared.Ballot.{Ballot}
 use Rattle.message.specs.declared.KeepersEnd.{KeepersEnd}
-use Rattle.message.specs.declared.Lease.{Lease}
+use Rattle.message.specs.declared.LeaseUntil.{LeaseUntil}
+use Rattle.message.specs.Leases.{Lease, Holder, LearnedLease}
 use Rattle.message.specs.declared.Head.{Head}
-use Rattle.message.specs.declared.LearnedLease.{LearnedLease}
 use Rattle.message.specs.Message.{is_above, to_keepers}
-use Rattle.rules.specs.declared.Promised.{Promised}
-use Rattle.rules.specs.declared.Accepted.{Accepted}
-use Rattle.rules.specs.declared.LastBallot.{LastBallot}
-use Rattle.rules.specs.declared.Holder.{Holder}
-use Rattle.rules.specs.declared.Named.{Named}
 use Rattle.rules.specs.declared.Value.{Value}
 use Rattle.rules.specs.declared.Vote.{Vote}
 
@@ -30,17 +26,17 @@ wait_end clock longest spread = clock + longest + spread
 abbrev pub lease_over : ℕ → Lease → Bool
 lease_over clock l = leb l.end.0 clock
 
-unfoldable pub accepted_at : ℕ → Accepted → Accepted
-accepted_at clock Accepted.Nothing = Accepted.Nothing
-accepted_at clock (Accepted.One l) = cond (lease_over clock l) Accepted.Nothing (Accepted.One l)
+unfoldable pub accepted_at : ℕ → Option Lease → Option Lease
+accepted_at clock None = None
+accepted_at clock (Some l) = cond (lease_over clock l) None (Some l)
 
 -- 'or named holder whose end is at or below its clock'
 abbrev pub holder_over : ℕ → Holder → Bool
 holder_over clock h = leb h.end.0 clock
 
-unfoldable pub named_at : ℕ → Named → Named
-named_at clock Named.Nobody = Named.Nobody
-named_at clock (Named.One h) = cond (holder_over clock h) Named.Nobody (Named.One h)
+unfoldable pub named_at : ℕ → Option Holder → Option Holder
+named_at clock None = None
+named_at clock (Some h) = cond (holder_over clock h) None (Some h)
 
 -- ---- start
 
@@ -49,16 +45,16 @@ abbrev pub ballot_at : ℕ → ℕ → Ballot
 ballot_at clock number = record { tick = clock; host = number }
 
 -- refusal 10 where it does not hold: the clock is above the last ballot's tick
-unfoldable pub is_fresh : LastBallot → ℕ → Bool
-is_fresh LastBallot.Never clock = true
-is_fresh (LastBallot.At t) clock = ltb t clock
+unfoldable pub is_fresh : Option ℕ → ℕ → Bool
+is_fresh None clock = true
+is_fresh (Some t) clock = ltb t clock
 
 -- ---- prepare request
 
 -- 'nothing is promised or the ballot is above the promise'
-unfoldable pub may_promise : Promised → Ballot → Bool
-may_promise Promised.Nothing b = true
-may_promise (Promised.To p) b = is_above b p
+unfoldable pub may_promise : Option Ballot → Ballot → Bool
+may_promise None b = true
+may_promise (Some p) b = is_above b p
 
 -- ---- prepare response
 
@@ -67,22 +63,22 @@ abbrev pub counts_reply : ℕ → ℕ → Bool
 counts_reply replied sender = not (is_in replied sender)
 
 -- the reply carries 'a lease whose end is at or below the receiver's clock'
-unfoldable pub has_ended : ℕ → Accepted → Bool
-has_ended clock Accepted.Nothing = false
-has_ended clock (Accepted.One l) = leb l.end.0 clock
+unfoldable pub has_ended : ℕ → Option Lease → Bool
+has_ended clock None = false
+has_ended clock (Some l) = leb l.end.0 clock
 
 -- 'keep the reply with the highest accepted ballot, the earlier one at a tie'
 abbrev pub replaces_kept : Lease → Lease → Bool
 replaces_kept a b = is_above b.ballot a.ballot
 
-unfoldable pub higher_of : Accepted → Accepted → Accepted
-higher_of Accepted.Nothing reply = reply
-higher_of (Accepted.One a) Accepted.Nothing = Accepted.One a
-higher_of (Accepted.One a) (Accepted.One b) =
-    cond (replaces_kept a b) (Accepted.One b) (Accepted.One a)
+unfoldable pub higher_of : Option Lease → Option Lease → Option Lease
+higher_of None reply = reply
+higher_of (Some a) None = Some a
+higher_of (Some a) (Some b) =
+    cond (replaces_kept a b) (Some b) (Some a)
 
 -- 'such a response now counts as empty' (02; 004, algorithm 3, line 3): what was kept stays
-unfoldable pub kept_after : ℕ → Accepted → Accepted → Accepted
+unfoldable pub kept_after : ℕ → Option Lease → Option Lease → Option Lease
 kept_after clock kept reply = cond (has_ended clock reply) kept (higher_of kept reply)
 
 -- 'when the count reaches a majority': the set is one, and was none before
@@ -103,9 +99,9 @@ own_is_later own l = leb l.end.0 own.0
 
 -- 'if no lease was kept, or its end has come, the lease is the host's own'; 'if the kept lease is
 -- its own, the later of that end and the kept one'; 'else the kept lease unchanged'
-unfoldable pub value_to_propose : ℕ → ℕ → KeepersEnd → Accepted → Value
-value_to_propose number clock own Accepted.Nothing = value number own
-value_to_propose number clock own (Accepted.One l) =
+unfoldable pub value_to_propose : ℕ → ℕ → KeepersEnd → Option Lease → Value
+value_to_propose number clock own None = value number own
+value_to_propose number clock own (Some l) =
     cond (leb l.end.0 clock) (value number own)
     (cond (eqb l.owner number)
     (cond (own_is_later own l) (value number own) (value l.owner l.end))
@@ -114,17 +110,17 @@ value_to_propose number clock own (Accepted.One l) =
 -- ---- propose request
 
 -- 'its ballot is below the promise'
-unfoldable pub is_forbidden : Promised → Ballot → Bool
-is_forbidden Promised.Nothing b = false
-is_forbidden (Promised.To p) b = is_above p b
+unfoldable pub is_forbidden : Option Ballot → Ballot → Bool
+is_forbidden None b = false
+is_forbidden (Some p) b = is_above p b
 
 -- not 'if its end is at or below the clock, or its ballot is below the promise'
-unfoldable pub may_accept : Promised → ℕ → Lease → Bool
+unfoldable pub may_accept : Option Ballot → ℕ → Lease → Bool
 may_accept p clock l = cond (leb l.end.0 clock) false (not (is_forbidden p l.ballot))
 
 -- 'promise that ballot, accept'
 unfoldable pub after_accept : Lease → Vote
-after_accept l = record { promised = Promised.To l.ballot; accepted = Accepted.One l }
+after_accept l = record { promised = Some l.ballot; accepted = Some l }
 
 -- ---- propose response and learn
 
@@ -141,37 +137,39 @@ unfoldable pub may_learn : ℕ → ℕ → LearnedLease → Bool
 may_learn number clock m = cond (eqb m.owner number) false (not (leb m.end.0 clock))
 
 -- 'naming replaces a named holder only if the new ballot is higher'
-unfoldable pub named_by : Named → Holder → Named
-named_by Named.Nobody h = Named.One h
-named_by (Named.One k) h = cond (is_above h.ballot k.ballot) (Named.One h) (Named.One k)
+unfoldable pub named_by : Option Holder → Holder → Option Holder
+named_by None h = Some h
+named_by (Some k) h = cond (is_above h.ballot k.ballot) (Some h) (Some k)
 
 -- ---- release and release request (02; 001, section 3.3)
 
 -- refusal 18 where it does not hold: the host names itself
-unfoldable pub names_itself : ℕ → Named → Bool
-names_itself number Named.Nobody = false
-names_itself number (Named.One h) = eqb h.owner number
+unfoldable pub names_itself : ℕ → Option Holder → Bool
+names_itself number None = false
+names_itself number (Some h) = eqb h.owner number
 
 -- not 'below its promise'
-unfoldable pub takes_release : Promised → Ballot → Bool
+unfoldable pub takes_release : Option Ballot → Ballot → Bool
 takes_release p b = not (is_forbidden p b)
 
 -- 'owned by the sender', and 'its ballot is lower'
 abbrev pub is_freed : Head → ℕ → Ballot → Bool
 is_freed m o b = eqb o m.sender && is_above m.ballot b
 
+-- what is held is dropped if it is freed, whichever end it has
+unfoldable pub freed : {End : Type 0} → Head → Option (LeaseUntil End) → Option (LeaseUntil End)
+freed m None = None
+freed m (Some l) = cond (is_freed m l.owner l.ballot) None (Some l)
+
 -- 'drops an accepted lease .. owned by the sender if its ballot is lower'
-unfoldable pub freed_lease : Head → Accepted → Accepted
-freed_lease m Accepted.Nothing = Accepted.Nothing
-freed_lease m (Accepted.One l) =
-    cond (is_freed m l.owner l.ballot) Accepted.Nothing (Accepted.One l)
+abbrev pub freed_lease : Head → Option Lease → Option Lease
+freed_lease m a = freed m a
 
 -- 'or named holder'
-unfoldable pub freed_holder : Head → Named → Named
-freed_holder m Named.Nobody = Named.Nobody
-freed_holder m (Named.One h) = cond (is_freed m h.owner h.ballot) Named.Nobody (Named.One h)
+abbrev pub freed_holder : Head → Option Holder → Option Holder
+freed_holder m k = freed m k
 
 -- 'it promises that ballot, and drops an accepted lease ..'
 unfoldable pub after_release : Vote → Head → Vote
 after_release v m =
-    record { promised = Promised.To m.ballot; accepted = freed_lease m v.accepted }
+    record { promised = Some m.ballot; accepted = freed_lease m v.accepted }

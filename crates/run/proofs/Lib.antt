@@ -1,4 +1,4 @@
--- Laws of a run of events.
-pub mod Playing
+-- Laws of a run of events, and of an event.
 pub mod Acting
+pub mod Playing
 pub mod Turn

@@ -10,22 +10,20 @@ use lib.ListN.{length}
 use Rattle.base.specs.Refusals.{done}
 use Rattle.text.specs.Parts.{Put}
 use Rattle.text.proofs.Laws.{Todo, todo_begin, todo_step, todo_end, put_length}
-use Rattle.state.specs.declared.Settings.{Settings}
-use Rattle.host.specs.declared.Host.{Host}
-use Rattle.slots.specs.declared.Slot.{Slot}
 use Rattle.cell.specs.declared.Cell.{Cell}
 use Rattle.cell.specs.declared.Event.{Event}
-use Rattle.cell.specs.declared.Answered.{Answered}
+use Rattle.cell.specs.Answered.{Answered}
 use Rattle.cell.specs.Events.{answered_with, cell_of, event_of}
 use Rattle.cell.specs.Runs.{answers}
 use Rattle.cell.specs.Claims.{Sound}
 use Rattle.cell.proofs.StaysWithin.{kept_event}
-use Rattle.record.specs.declared.Record.{Record}
+use Rattle.record.specs.declared.Record.{Record as Answer}
+use Rattle.record.specs.Read.{Record, numbered_record}
 use Rattle.record.specs.Record.{kind_of, record_at}
 use Rattle.record.proofs.Laws.{record_next}
-use Rattle.lines.specs.Lines.{event, names_from, counts, line_text, text_of}
+use Rattle.lines.specs.Lines.{event, counts, line_text, text_of}
 use Rattle.listing.specs.declared.Walk.{Walk}
-use Rattle.listing.specs.Listing.{script_from, settings_length, longest_run, events_of, names_of}
+use Rattle.listing.specs.Listing.{settings_length, longest_run, events_of, names_of}
 use Rattle.listing.specs.Listing.{event_lines}
 use Rattle.listing.specs.Listing.{stop_lines, zeros, others}
 use Rattle.listing.specs.Parts.{walk_from, walked_to, last_lines}
@@ -33,10 +31,6 @@ use Rattle.listing.proofs.Counting.{done_most, done_zero, done_other, done_both}
 use Rattle.listing.proofs.Records.{script_next}
 use Rattle.run.specs.Parts.{script_after, events_after, answered_after, ahead}
 use Rattle.run.specs.Parts.{Plays}
-
--- a cell of these parts
-abbrev pub cell_with : Settings → List Host → List Slot → Cell
-cell_with s hosts slots = record { settings = s; hosts = hosts; slots = slots }
 
 -- the record at an offset is five bytes nearer to the end
 pub ahead_next : (run : List ℕ) (next : ℕ) (r : Record) → record_at run next ≡ r
@@ -93,48 +87,46 @@ going_first c first run out from s =
     }
 
 -- an event's turn: its line is written, and the next record read
-module _ {c₀ : Cell} {first : Record} {run out₀ : List ℕ} {from : ℕ} {s : Settings}
-    {hosts : List Host} {slots : List Slot} {r : Record} {out : List ℕ} {w : Walk}
-    (g : Going c₀ first run out₀ from (cell_with s hosts slots) r out w) (e : Event) (next : ℕ)
-    (f : r ≡ Record.Event e next)
+module _ {c₀ : Cell} {first : Record} {run out₀ : List ℕ} {from : ℕ} {c : Cell} {r : Answer}
+    {out : List ℕ} {w : Walk} (g : Going c₀ first run out₀ from c (numbered_record r) out w)
+    (e : Event) (next : ℕ) (is : r ≡ Answer.Event e next)
   where
-    abbrev c : Cell
-    c = cell_with s hosts slots
+    f : numbered_record r ≡ Record.Event e next
+    f = ap numbered_record is
 
     -- what is ahead, and the events that are
-    ahead_is : ahead run r ≡ 5 + (length run - next)
+    ahead_is : ahead run (numbered_record r) ≡ 5 + (length run - next)
     unfolding ahead
     ahead_is = rw f
 
     abbrev later : List Event
     later = events_after run next (record_at run next)
 
-    events_are : events_after run w.at r ≡ e ∷ later
+    events_are : events_after run w.at (numbered_record r) ≡ e ∷ later
     events_are = ap (events_after run w.at) f ∙ events_next run w.at e next
 
     pub going_count : ahead run first ≤ longest_run → w.applied + w.refused + 1 < 100000
     going_count l = omega (arith, l, g.few)
 
-    pub going_nearer : (r' : Record) → r' ≡ record_at run next → ahead run r' < ahead run r
+    pub going_nearer : (r' : Record) → r' ≡ record_at run next
+        → ahead run r' < ahead run (numbered_record r)
     going_nearer r' q = omega (arith, ahead_is, ahead_next run next r' (sym q))
 
     -- a line of 50 bytes has room
     pub going_room : from + 10 * ahead run first ≤ length out₀ → w.pos + 50 ≤ length out
     going_room l = omega (arith, l, g.near, g.same, ahead_is)
 
-    pub going_turn : (hosts' : List Host) (slots' : List Slot) (out' : List ℕ)
-        (answer looked pos : ℕ) (r' : Record)
-        → answered_with answer looked (cell_with s hosts' slots') ≡ event_of c e
+    pub going_turn : (c' : Cell) (out' : List ℕ) (answer looked pos : ℕ) (r' : Record)
+        → answered_with answer looked c' ≡ event_of c e
         → Put out w.pos
         (line_text
-        (event (w.applied + w.refused + 1) (kind_of e) answer (names_from hosts' s.n 0))) pos
+        (event (w.applied + w.refused + 1) (kind_of e) answer (names_of c'))) pos
         out'
         → pos ≤ w.pos + 50 → r' ≡ record_at run next
-        → Going c₀ first run out₀ from (cell_with s hosts' slots') r' out'
+        → Going c₀ first run out₀ from c' r' out'
         (walked_to w answer looked next pos)
     unfolding walked_to answered_after answers zeros others event_lines text_of
-    going_turn hosts' slots' out' answer looked pos r' q t short k =
-        let c' = cell_with s hosts' slots' in
+    going_turn c' out' answer looked pos r' q t short k =
         let d = done_most answer in
         let l = ahead_next run next (record_at run next) refl in
         let place = w.applied + w.refused + 1 in
@@ -172,29 +164,30 @@ module _ {c₀ : Cell} {first : Record} {run out₀ : List ℕ} {from : ℕ} {s 
         })
 
 -- what the `else` of a `let .. else` knows of a record
-abbrev pub NoEvent : Record → Type 0
-NoEvent r = (e : Event) (next : ℕ) → r ≡ Record.Event e next → ⊥
+abbrev pub NoEvent : Answer → Type 0
+NoEvent r = (e : Event) (next : ℕ) → r ≡ Answer.Event e next → ⊥
 
 -- at a record that is no event nothing is left, and its lines are the last
-no_events : (run : List ℕ) (at : ℕ) (r : Record) → NoEvent r → events_after run at r ≡ []
+no_events : (run : List ℕ) (at : ℕ) (r : Answer) → NoEvent r
+    → events_after run at (numbered_record r) ≡ []
 unfolding events_of
-no_events run at Record.End t = refl
-no_events run at (Record.Fault f o) t = refl
-no_events run at (Record.Event e next) t = absurd (t e next refl)
+no_events run at Answer.End t = refl
+no_events run at (Answer.Fault f) t = refl
+no_events run at (Answer.Event e next) t = absurd (t e next refl)
 
-last_lines_lem : (run : List ℕ) (at a k : ℕ) (r : Record) → NoEvent r
-    → last_lines at a k r ≡ stop_lines (script_after run at r) ++ (counts a k ∷ [])
+last_lines_lem : (run : List ℕ) (at a k : ℕ) (r : Answer) → NoEvent r
+    → last_lines at a k (numbered_record r)
+    ≡ stop_lines (script_after run at (numbered_record r)) ++ (counts a k ∷ [])
 unfolding last_lines stop_lines
-last_lines_lem run at a k Record.End t = refl
-last_lines_lem run at a k (Record.Fault f o) t = refl
-last_lines_lem run at a k (Record.Event e next) t = absurd (t e next refl)
+last_lines_lem run at a k Answer.End t = refl
+last_lines_lem run at a k (Answer.Fault f) t = refl
+last_lines_lem run at a k (Answer.Event e next) t = absurd (t e next refl)
 
-pub going_end : {c₀ : Cell} {first : Record} {run out₀ : List ℕ} {from : ℕ} {s : Settings}
-    {hosts : List Host} {slots : List Slot} {r : Record} {out : List ℕ} {w : Walk}
-    → Going c₀ first run out₀ from (cell_with s hosts slots) r out w → NoEvent r
+pub going_end : {c₀ : Cell} {first : Record} {run out₀ : List ℕ} {from : ℕ} {c : Cell} {r : Answer}
+    {out : List ℕ} {w : Walk} → Going c₀ first run out₀ from c (numbered_record r) out w → NoEvent r
     → from + 10 * ahead run first ≤ length out₀
     → Plays c₀ first run out₀ from
-    (record { settings = s; hosts = hosts; slots = slots; last = r; walk = w }) out
+    (record { cell = c; last = r; walk = w }) out
 unfolding answered_after answers zeros others event_lines text_of
 going_end {run = run} {r = r} {w = w} g t l =
     let none = no_events run w.at r t in
@@ -209,14 +202,3 @@ going_end {run = run} {r = r} {w = w} g t l =
       written = todo_end g.todo (rw none) (omega (arith, l, g.near, g.same));
       near = omega (arith, g.near);
     }
-
--- a run of one event
-pub one_event : (c : Cell) (e : Event)
-    → answered_after (answered_with done 0 c) (events_after [] settings_length (Record.Event e 0))
-    ≡ event_of c e
-unfolding answered_after events_of script_from
-one_event c e = refl
-
-pub one_ahead : (e : Event) → ahead [] (Record.Event e 0) ≡ 5
-unfolding ahead
-one_ahead e = refl

@@ -1,2 +1,3 @@
--- What a run of events leaves. Needs no belief.
+-- What a run of events leaves, and the parts of an event. Needs no belief.
+pub mod Running
 pub mod Parts

@@ -4,11 +4,11 @@ use Rattle.std.specs.Prelude.{ℕ, ◌+◌, ◌-◌, ◌*◌, ◌≤◌, ◌≡�
 use Rattle.base.specs.Refusals.{done}
 use Rattle.cell.specs.declared.Cell.{Cell}
 use Rattle.cell.specs.declared.Event.{Event}
-use Rattle.cell.specs.declared.Answered.{Answered}
+use Rattle.cell.specs.Answered.{Answered}
 use Rattle.cell.specs.Events.{answered_with, cell_of, event_of}
 use Rattle.cell.specs.Runs.{answers}
 use Rattle.cell.specs.Claims.{Sound}
-use Rattle.record.specs.declared.Record.{Record}
+use Rattle.record.specs.Read.{Record, numbered_record}
 use Rattle.text.specs.Parts.{Put}
 use Rattle.lines.specs.Lines.{counts, text_of}
 use Rattle.listing.specs.Listing.{Script, script_with, script_from, settings_length, longest_run}
@@ -30,14 +30,7 @@ answered_after a (e ∷ es) = answered_after (event_of (cell_of a) e) es
 
 -- what was left, as the last event gave it
 abbrev pub left_by : Played → Answered
-left_by p =
-    record {
-      answer = p.walk.answer;
-      looked = p.walk.looked;
-      settings = p.settings;
-      hosts = p.hosts;
-      slots = p.slots;
-    }
+left_by p = answered_with p.walk.answer p.walk.looked p.cell
 
 -- how many bytes of a run file there are from a record on, where one has five at least
 unfoldable pub ahead : List ℕ → Record → ℕ
@@ -59,9 +52,9 @@ pub record Plays (c : Cell) (first : Record) (run out : List ℕ) (from : ℕ) (
   pub applied : p.walk.applied ≡ zeros (answers c (events_after run settings_length first))
   pub refused : p.walk.refused ≡ others (answers c (events_after run settings_length first))
   -- the record that ended it is no event; by it and its offset, the lines that are still to come
-  pub over : events_after run p.walk.at p.last ≡ []
+  pub over : events_after run p.walk.at (numbered_record p.last) ≡ []
   pub ended : (a r : ℕ)
-      → last_lines p.walk.at a r p.last
+      → last_lines p.walk.at a r (numbered_record p.last)
       ≡ stop_lines (script_after run settings_length first) ++ (counts a r ∷ [])
   pub written : Put out from (text_of (event_lines 1 c (events_after run settings_length first)))
       p.walk.pos after

@@ -1,26 +1,25 @@
 -- Laws of the messages under way: what holds of each of them stays so when a slot is freed or a
--- message placed, the slots stay as many, and a filled one is left alone. Assumes nothing.
-use mathlib.Core.Path.{◌≡◌, refl, ap, ◌∙◌}
+-- message placed, and the slots stay as many. Assumes nothing.
+use Rattle.std.specs.Prelude.{Option, Some, None}
+use mathlib.Core.Path.{◌≡◌, refl, ◌∙◌}
 use mathlib.Core.Bool.{Bool, true, false, cond}
 use mathlib.Core.List.{List, [], ◌∷◌}
 use Prim.Native.Nat.{ℕ, zero, suc, ◌≤◌, ◌<◌}
 use native.Mathlib.Omega.{arith}
 use lib.ListN.{length, get_or, set, length-set}
-use lib.Seq.{get_or-set_other}
 use borrow.Author.Tests.{eqb-true, eq-eqb}
 use Rattle.base.specs.Refusals.{done}
 use Rattle.base.specs.Lists.{All, every}
 use Rattle.base.proofs.Lists.{all_map, all_set, all_at, all_same}
-use Rattle.base.proofs.Tests.{true_false, both, by_test}
+use Rattle.base.proofs.Tests.{both}
 use Rattle.message.specs.declared.Sizes.{Sizes}
 use Rattle.message.specs.declared.Message.{Message}
 use Rattle.message.specs.Message.{numbers_of, addressed_to}
 use Rattle.message.specs.Faults.{fault_of}
-use Rattle.slots.specs.declared.Content.{Content}
 use Rattle.slots.specs.declared.Slot.{Slot}
 use Rattle.slots.specs.Slots.{slot_count, empty_slot, slot_with, no_messages, is_empty, content_ok}
 use Rattle.slots.specs.Slots.{slot_ok, slots_ok, empties, lowest, placed, placed_each, freed}
-use Rattle.slots.specs.Claims.{Empty, Filled}
+use Rattle.slots.specs.Claims.{Empty}
 
 -- ---- as many slots
 
@@ -77,42 +76,11 @@ lowest_is (s ∷ ss) h = go (is_empty s.content) refl h (λ l. lowest_is ss l)
     go true e l f = (omega arith, e)
     go false e l f = let p = f l in (omega (arith, p.0), p.1)
 
--- ---- a slot that holds a message is left alone by placing, to any receivers, and by freeing
--- another
-
--- the lowest empty slot holds no message
-not_lowest : (ss : List Slot) (j : ℕ) → Filled ss j → j ≡ lowest ss → ⊥
-unfolding lowest is_empty
-not_lowest [] j f q = true_false f
-not_lowest (s ∷ ss) zero f q = let n : 0 ≡ suc (lowest ss) = rw f at q in absurd (omega arith)
-not_lowest (s ∷ ss) (suc j) f q =
-    by_test (λ (k : ℕ). suc j ≡ k → ⊥) (is_empty s.content) 0 (suc (lowest ss))
-    (λ _ e. omega (arith, e)) (λ _ e. not_lowest ss j f (omega (arith, e))) q
-
-placed_leaves : (ss : List Slot) (m : Message) (j : ℕ) → Filled ss j
-    → get_or (placed ss m) j empty_slot ≡ get_or ss j empty_slot
-unfolding placed
-placed_leaves ss m j f =
-    get_or-set_other ss (lowest ss) j (slot_with m) empty_slot (not_lowest ss j f)
-
-pub placed_each_leaves : (ss : List Slot) (m : Message) (hs : List ℕ) (j : ℕ) → Filled ss j
-    → get_or (placed_each ss m hs) j empty_slot ≡ get_or ss j empty_slot
-unfolding placed_each
-placed_each_leaves ss m [] j f = refl
-placed_each_leaves ss m (h ∷ hs) j f =
-    let e = placed_leaves ss (addressed_to m h) j f in
-    placed_each_leaves (placed ss (addressed_to m h)) m hs j
-    (ap (λ (s : Slot). is_empty s.content) e ∙ f) ∙ e
-
-pub freed_leaves : (ss : List Slot) (i j : ℕ) → (j ≡ i → ⊥)
-    → get_or (freed ss i) j empty_slot ≡ get_or ss j empty_slot
-freed_leaves ss i j d = get_or-set_other ss i j empty_slot empty_slot d
-
 -- ---- what holds of each message under way
 
-unfoldable pub Carries : (Message → Type 0) → Content → Type 0
-Carries P Content.Empty = Unit
-Carries P (Content.One m) = P m
+unfoldable pub Carries : (Message → Type 0) → Option Message → Type 0
+Carries P None = Unit
+Carries P (Some m) = P m
 
 abbrev CarriedBy : (Message → Type 0) → Slot → Type 0
 CarriedBy P s = Carries P s.content
@@ -120,11 +88,11 @@ CarriedBy P s = Carries P s.content
 unfoldable pub Holds : (Message → Type 0) → List Slot → Type 0
 Holds P ss = All (CarriedBy P) ss
 
-carries_map : (P Q : Message → Type 0) → ((m : Message) → P m → Q m) → (c : Content) → Carries P c
-    → Carries Q c
+carries_map : (P Q : Message → Type 0) → ((m : Message) → P m → Q m) → (c : Option Message)
+    → Carries P c → Carries Q c
 unfolding Carries
-carries_map P Q f Content.Empty p = tt
-carries_map P Q f (Content.One m) p = f m p
+carries_map P Q f None p = tt
+carries_map P Q f (Some m) p = f m p
 
 pub holds_map : (P Q : Message → Type 0) (ss : List Slot) → ((m : Message) → P m → Q m) → Holds P ss
     → Holds Q ss
@@ -153,13 +121,13 @@ holds_placed_each P ss m (h ∷ hs) p q =
     holds_placed_each P (placed ss (addressed_to m h)) m hs
     (holds_placed P ss (addressed_to m h) p q.0) q.1
 
-carried : (P : Message → Type 0) (c : Content) (m : Message) → Carries P c → c ≡ Content.One m → P m
+carried : (P : Message → Type 0) (c : Option Message) (m : Message) → Carries P c → c ≡ Some m → P m
 unfolding Carries
 carried P c m p e = rw e at p
 
 -- of the message in a slot
 pub holds_at : (P : Message → Type 0) (ss : List Slot) (i : ℕ) (m : Message) → Holds P ss
-    → (get_or ss i empty_slot).content ≡ Content.One m → P m
+    → (get_or ss i empty_slot).content ≡ Some m → P m
 unfolding Holds Carries
 holds_at P ss i m p e =
     carried P (get_or ss i empty_slot).content m (all_at (CarriedBy P) ss i empty_slot p tt) e
@@ -169,15 +137,15 @@ holds_at P ss i m p e =
 abbrev pub Sendable : Sizes → Message → Type 0
 Sendable z m = fault_of z (numbers_of m) ≡ done
 
-content_in_lem : (z : Sizes) (c : Content) → content_ok z c ≡ true → Carries (Sendable z) c
+content_in_lem : (z : Sizes) (c : Option Message) → content_ok z c ≡ true → Carries (Sendable z) c
 unfolding content_ok Carries
-content_in_lem z Content.Empty e = tt
-content_in_lem z (Content.One m) e = eqb-true (fault_of z (numbers_of m)) done e
+content_in_lem z None e = tt
+content_in_lem z (Some m) e = eqb-true (fault_of z (numbers_of m)) done e
 
-out_content : (z : Sizes) (c : Content) → Carries (Sendable z) c → content_ok z c ≡ true
+out_content : (z : Sizes) (c : Option Message) → Carries (Sendable z) c → content_ok z c ≡ true
 unfolding content_ok Carries
-out_content z Content.Empty p = refl
-out_content z (Content.One m) p = eq-eqb (fault_of z (numbers_of m)) done p
+out_content z None p = refl
+out_content z (Some m) p = eq-eqb (fault_of z (numbers_of m)) done p
 
 slots_from : (z : Sizes) (i : ℕ) (ss : List Slot) → every (slot_ok z) i ss ≡ true
     → Holds (Sendable z) ss

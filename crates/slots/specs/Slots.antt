@@ -1,7 +1,7 @@
 -- The messages under way: which slots are empty, the lowest of them, placing a message, how many
 -- slots that looks at, and freeing a slot. Assumes nothing.
 use Rattle.std.specs.Prelude.{ℕ, zero, suc, Bool, true, false, cond, ◌&&◌, not, List, [], ◌∷◌, ltb}
-use Rattle.std.specs.Prelude.{leb, eqb, set, replicate}
+use Rattle.std.specs.Prelude.{leb, eqb, set, replicate, Option, Some, None}
 use Rattle.base.specs.Refusals.{done, unless, refused_slot, refused_full}
 use Rattle.base.specs.Lists.{every}
 use Rattle.quorum.specs.Sets.{members}
@@ -9,32 +9,31 @@ use Rattle.message.specs.declared.Sizes.{Sizes}
 use Rattle.message.specs.declared.Message.{Message}
 use Rattle.message.specs.Message.{numbers_of, addressed_to}
 use Rattle.message.specs.Faults.{fault_of}
-use Rattle.slots.specs.declared.Content.{Content}
 use Rattle.slots.specs.declared.Slot.{Slot}
 
 abbrev pub slot_count : ℕ
 slot_count = 96
 
 abbrev pub empty_slot : Slot
-empty_slot = record { content = Content.Empty }
+empty_slot = record { content = None }
 
 abbrev pub slot_with : Message → Slot
-slot_with m = record { content = Content.One m }
+slot_with m = record { content = Some m }
 
 -- 'under way are 96 slots, all empty when the cell opens'
 abbrev pub no_messages : List Slot
 no_messages = replicate slot_count empty_slot
 
-unfoldable pub is_empty : Content → Bool
-is_empty Content.Empty = true
-is_empty (Content.One m) = false
+unfoldable pub is_empty : Option Message → Bool
+is_empty None = true
+is_empty (Some m) = false
 
 -- ---- refusals
 
 -- 1 where it does not hold: 'a slot holds a message that writing to its target would refuse'
-unfoldable pub content_ok : Sizes → Content → Bool
-content_ok z Content.Empty = true
-content_ok z (Content.One m) = eqb (fault_of z (numbers_of m)) done
+unfoldable pub content_ok : Sizes → Option Message → Bool
+content_ok z None = true
+content_ok z (Some m) = eqb (fault_of z (numbers_of m)) done
 
 abbrev pub slot_ok : Sizes → ℕ → Slot → Bool
 slot_ok z i s = content_ok z s.content
@@ -43,7 +42,7 @@ unfoldable pub slots_ok : Sizes → List Slot → Bool
 slots_ok z ss = every (slot_ok z) 0 ss
 
 -- 12: 'slot 96 or more, or empty'
-abbrev pub slot_refusal : ℕ → Content → ℕ
+abbrev pub slot_refusal : ℕ → Option Message → ℕ
 slot_refusal i content = unless (ltb i slot_count && not (is_empty content)) refused_slot
 
 -- how many slots are empty

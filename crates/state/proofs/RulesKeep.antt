@@ -1,4 +1,5 @@
 -- The leaf rules keep what a host keeps within its limits. Assumes nothing.
+use Rattle.std.specs.Prelude.{Option, Some}
 use mathlib.Core.Path.{◌≡◌, refl}
 use mathlib.Core.Bool.{true}
 use Prim.Native.Nat.{ℕ, ◌+◌, ◌^◌, ◌≤◌, ◌<◌}
@@ -7,11 +8,8 @@ use borrow.Author.Tests.{ltb-true, lt-ltb}
 use Rattle.quorum.specs.Sets.{is_below, with_host}
 use Rattle.quorum.proofs.Majorities.{with_below}
 use Rattle.message.specs.declared.KeepersEnd.{KeepersEnd}
-use Rattle.message.specs.declared.Lease.{Lease}
+use Rattle.message.specs.Leases.{Lease, Holder}
 use Rattle.message.specs.Message.{last_tick, last_end}
-use Rattle.rules.specs.declared.Accepted.{Accepted}
-use Rattle.rules.specs.declared.Named.{Named}
-use Rattle.rules.specs.declared.Holder.{Holder}
 use Rattle.rules.specs.declared.Value.{Value}
 use Rattle.rules.specs.Rules.{own_end}
 use Rattle.rules.proofs.Laws.{LeaseLeft, empty, over, live, lease_aged, HolderLeft, nobody, dropped}
@@ -26,15 +24,15 @@ use Rattle.state.proofs.StateLimits.{settings_in, accepted_in, StateIn}
 
 -- ---- time and releases
 
-pub kept_lease : (n : ℕ) {Goes Stays : Lease → Type 0} {a b : Accepted} → LeaseLeft Goes Stays a b
-    → accepted_ok n a ≡ true → accepted_ok n b ≡ true
+pub kept_lease : (n : ℕ) {Goes Stays : Lease → Type 0} {a b : Option Lease}
+    → LeaseLeft Goes Stays a b → accepted_ok n a ≡ true → accepted_ok n b ≡ true
 unfolding accepted_ok
 kept_lease n empty e = e
 kept_lease n (over l _) e = refl
 kept_lease n (live l _) e = e
 
-pub kept_holder : (n : ℕ) {Goes Stays : Holder → Type 0} {m k : Named} → HolderLeft Goes Stays m k
-    → named_ok n m ≡ true → named_ok n k ≡ true
+pub kept_holder : (n : ℕ) {Goes Stays : Holder → Type 0} {m k : Option Holder}
+    → HolderLeft Goes Stays m k → named_ok n m ≡ true → named_ok n k ≡ true
 unfolding named_ok
 kept_holder n nobody e = e
 kept_holder n (dropped h _) e = refl
@@ -53,7 +51,7 @@ aged_in s number clock t i = record {
 
 -- ---- replies, leases to propose, and naming
 
-pub kept_reply : (n : ℕ) {clock : ℕ} {a b c : Accepted} → Keeping clock a b c
+pub kept_reply : (n : ℕ) {clock : ℕ} {a b c : Option Lease} → Keeping clock a b c
     → accepted_ok n a ≡ true → accepted_ok n b ≡ true → accepted_ok n c ≡ true
 kept_reply n (as_sent (earlier _)) p q = p
 kept_reply n (as_sent (later _)) p q = q
@@ -68,7 +66,7 @@ pub record ValueIn (n : ℕ) (c : Value) : Type 0 where
   pub owner : c.owner < n
   pub end : c.end.0 ≤ last_end
 
-pub value_in_lem : (n : ℕ) {number clock : ℕ} {own : KeepersEnd} {a : Accepted} {c : Value}
+pub value_in_lem : (n : ℕ) {number clock : ℕ} {own : KeepersEnd} {a : Option Lease} {c : Value}
     → ToPropose number clock own a c → number < n → own.0 ≤ last_end → accepted_ok n a ≡ true
     → ValueIn n c
 value_in_lem n free b t e = record { owner = b; end = t }
@@ -76,8 +74,8 @@ value_in_lem n (ended l _) b t e = record { owner = b; end = t }
 value_in_lem n (renewed l _ _) b t e = record { owner = b; end = t }
 value_in_lem n (kept l) b t e = let i = accepted_in n l e in record { owner = i.owner; end = i.end }
 
-pub kept_naming : (n : ℕ) {h : Holder} {m k : Named} → Naming h m k → named_ok n m ≡ true
-    → named_ok n (Named.One h) ≡ true → named_ok n k ≡ true
+pub kept_naming : (n : ℕ) {h : Holder} {m k : Option Holder} → Naming h m k → named_ok n m ≡ true
+    → named_ok n (Some h) ≡ true → named_ok n k ≡ true
 kept_naming n first p q = q
 kept_naming n (replaced j _) p q = q
 kept_naming n (unmoved j _) p q = p

@@ -1,5 +1,6 @@
 -- What the limits of settings and of a host's state tell, as orders of numbers, and the limits from
 -- that. Assumes nothing.
+use Rattle.std.specs.Prelude.{Some}
 use mathlib.Core.Path.{◌≡◌}
 use mathlib.Core.Bool.{true}
 use Prim.Native.Nat.{ℕ, ◌+◌, ◌≤◌, ◌<◌}
@@ -9,11 +10,8 @@ use Rattle.base.proofs.Lists.{all_of_in, out_all_of}
 use Rattle.base.proofs.Tests.{both}
 use Rattle.quorum.specs.Sets.{is_below}
 use Rattle.message.specs.declared.Ballot.{Ballot}
-use Rattle.message.specs.declared.Lease.{Lease}
+use Rattle.message.specs.Leases.{Lease, Holder}
 use Rattle.message.specs.Message.{last_tick, last_end}
-use Rattle.rules.specs.declared.Accepted.{Accepted}
-use Rattle.rules.specs.declared.Named.{Named}
-use Rattle.rules.specs.declared.Holder.{Holder}
 use Rattle.state.specs.declared.Settings.{Settings}
 use Rattle.state.specs.declared.Asking.{Asking}
 use Rattle.state.specs.declared.Proposing.{Proposing}
@@ -83,18 +81,18 @@ out_lease n b owner end i =
       (lt-ltb _ _ i.owner, (le-leb _ _ i.end, tt)),
     )
 
-pub accepted_in : (n : ℕ) (l : Lease) → accepted_ok n (Accepted.One l) ≡ true
+pub accepted_in : (n : ℕ) (l : Lease) → accepted_ok n (Some l) ≡ true
     → LeaseIn n l.ballot l.owner l.end.0
 unfolding accepted_ok
 accepted_in n l e = lease_in n l.ballot l.owner l.end.0 e
 
 pub out_accepted : (n : ℕ) (l : Lease) → LeaseIn n l.ballot l.owner l.end.0
-    → accepted_ok n (Accepted.One l) ≡ true
+    → accepted_ok n (Some l) ≡ true
 unfolding accepted_ok
 out_accepted n l i = out_lease n l.ballot l.owner l.end.0 i
 
 pub out_named : (n : ℕ) (k : Holder) → LeaseIn n k.ballot k.owner k.end.0
-    → named_ok n (Named.One k) ≡ true
+    → named_ok n (Some k) ≡ true
 unfolding named_ok
 out_named n k i = out_lease n k.ballot k.owner k.end.0 i
 

@@ -1,9 +1,7 @@
 -- What a release (02) leaves of the state of the host that lets go, and of the state of a host that
 -- takes its request. Assumes nothing.
-use Rattle.std.specs.Prelude.{ℕ}
+use Rattle.std.specs.Prelude.{ℕ, Some, None}
 use Rattle.message.specs.declared.Head.{Head}
-use Rattle.rules.specs.declared.LastBallot.{LastBallot}
-use Rattle.rules.specs.declared.Named.{Named}
 use Rattle.rules.specs.declared.Vote.{Vote}
 use Rattle.rules.specs.Rules.{freed_holder, after_release}
 use Rattle.state.specs.declared.Round.{Round}
@@ -14,9 +12,9 @@ abbrev pub released_at : ℕ → State → State
 released_at clock t = record {
   promised = t.promised;
   accepted = t.accepted;
-  last = LastBallot.At clock;
+  last = Some clock;
   round = Round.Idle;
-  named = Named.Nobody;
+  named = None;
 }
 
 abbrev pub vote_of : State → Vote

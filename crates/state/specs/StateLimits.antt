@@ -1,6 +1,8 @@
 -- The limits of document 01 on the numbers of a host and of its settings: a value past one of them
 -- is refused by 1. Assumes nothing.
+use Rattle.message.specs.Leases.{Lease, Holder}
 use Rattle.std.specs.Prelude.{ℕ, ◌+◌, ◌^◌, Bool, true, List, [], ◌∷◌, ltb, leb, eqb}
+use Rattle.std.specs.Prelude.{Option, Some, None}
 use Rattle.base.specs.Refusals.{Test, test, all_hold}
 use Rattle.base.specs.Lists.{all_of}
 use Rattle.quorum.specs.Sets.{cell_fits, is_below}
@@ -8,10 +10,6 @@ use Rattle.message.specs.declared.Sizes.{Sizes}
 use Rattle.message.specs.declared.Ballot.{Ballot}
 use Rattle.message.specs.Message.{last_tick, last_end}
 use Rattle.message.specs.Faults.{sizes}
-use Rattle.rules.specs.declared.Accepted.{Accepted}
-use Rattle.rules.specs.declared.Promised.{Promised}
-use Rattle.rules.specs.declared.LastBallot.{LastBallot}
-use Rattle.rules.specs.declared.Named.{Named}
 use Rattle.state.specs.declared.Settings.{Settings}
 use Rattle.state.specs.declared.Asking.{Asking}
 use Rattle.state.specs.declared.Proposing.{Proposing}
@@ -58,21 +56,21 @@ ballot_ok n b = all_of (leb b.tick last_tick ∷ ltb b.host n ∷ [])
 unfoldable pub lease_ok : ℕ → Ballot → ℕ → ℕ → Bool
 lease_ok n b owner end = all_of (ballot_ok n b ∷ ltb owner n ∷ leb end last_end ∷ [])
 
-unfoldable pub accepted_ok : ℕ → Accepted → Bool
-accepted_ok n Accepted.Nothing = true
-accepted_ok n (Accepted.One l) = lease_ok n l.ballot l.owner l.end.0
+unfoldable pub accepted_ok : ℕ → Option Lease → Bool
+accepted_ok n None = true
+accepted_ok n (Some l) = lease_ok n l.ballot l.owner l.end.0
 
-unfoldable pub promised_ok : ℕ → Promised → Bool
-promised_ok n Promised.Nothing = true
-promised_ok n (Promised.To b) = ballot_ok n b
+unfoldable pub promised_ok : ℕ → Option Ballot → Bool
+promised_ok n None = true
+promised_ok n (Some b) = ballot_ok n b
 
-unfoldable pub last_ok : LastBallot → Bool
-last_ok LastBallot.Never = true
-last_ok (LastBallot.At t) = leb t last_tick
+unfoldable pub last_ok : Option ℕ → Bool
+last_ok None = true
+last_ok (Some t) = leb t last_tick
 
-unfoldable pub named_ok : ℕ → Named → Bool
-named_ok n Named.Nobody = true
-named_ok n (Named.One h) = lease_ok n h.ballot h.owner h.end.0
+unfoldable pub named_ok : ℕ → Option Holder → Bool
+named_ok n None = true
+named_ok n (Some h) = lease_ok n h.ballot h.owner h.end.0
 
 -- a round's ballot is the host's own
 unfoldable pub asking_ok : Settings → ℕ → Asking → Bool

@@ -1,18 +1,47 @@
 // What a host keeps of one sheet, the settings of a cell, and whether their numbers are within
 // document 01's limits (number 1); and what a restart, a clock and a release leave of a state.
-#![tactic(auto)]
+#![tactic(auto, unfolding(
+// lists of tests
+base::specs::Lists::all_of,
+// last ticks and ends
+message::specs::Message::last_tick, message::specs::Message::last_end,
+// settings
+crate::specs::StateLimits::settings_ok, crate::specs::StateLimits::last_longest,
+// a lease that is asked for
+crate::specs::StateLimits::duration_ok,
+// ballots and leases
+crate::specs::StateLimits::ballot_ok, crate::specs::StateLimits::lease_ok,
+// what an acceptor keeps
+crate::specs::StateLimits::accepted_ok, crate::specs::StateLimits::promised_ok,
+// what else a host keeps
+crate::specs::StateLimits::last_ok, crate::specs::StateLimits::named_ok,
+// rounds
+crate::specs::StateLimits::asking_ok, crate::specs::StateLimits::proposing_ok,
+// a state
+crate::specs::StateLimits::round_ok, crate::specs::StateLimits::state_ok,
+// a state that ages
+crate::specs::Ageing::aged_at,
+// a state after a release
+crate::specs::Releasing::freed_by,
+// the blank state
+crate::specs::Blank::is_blank_state,
+// promises and leases in it
+crate::specs::Blank::no_promise, crate::specs::Blank::no_lease,
+// and the rest of it
+crate::specs::Blank::no_tick, crate::specs::Blank::no_round,
+// and whom it names
+crate::specs::Blank::no_holder))]
 
 ghost use Rattle.std.specs.Prelude.{◌≡◌};
 ghost use Rattle.state.specs.Ageing.{aged_at};
 ghost use Rattle.state.specs.Releasing.{released_at, freed_by};
-ghost use Rattle.state.specs.Blank.{blank_state, no_promise, no_lease, no_tick, no_round};
-ghost use Rattle.state.specs.Blank.{no_holder, is_blank_state};
+ghost use Rattle.state.specs.Blank.{blank_state, is_blank_state};
 ghost use Rattle.state.specs.StateLimits.{sizes_of, settings_ok, ballot_ok, lease_ok, accepted_ok};
 ghost use Rattle.state.specs.StateLimits.{promised_ok, last_ok, named_ok, asking_ok, proposing_ok};
 ghost use Rattle.state.specs.StateLimits.{round_ok, state_ok, duration_ok};
 
-use message::{Ballot, Head, KeepersEnd, LAST_END, LAST_TICK, Sizes};
-use rules::{Accepted, LastBallot, Named, Promised, Vote};
+use message::{Ballot, Head, Holder, KeepersEnd, LAST_END, LAST_TICK, Lease, Sizes};
+use rules::Vote;
 
 // The longest lease that a cell may be set to, 2^31 ticks.
 pub const LAST_LONGEST: u32 = 2147483648;
@@ -31,7 +60,7 @@ pub struct Asking {
     pub ballot: Ballot,
     pub duration: u32,
     pub replied: u16,
-    pub kept: Accepted,
+    pub kept: Option<Lease>,
 }
 
 // A round that proposes: the second phase of Paxos.
@@ -44,21 +73,24 @@ pub struct Proposing {
 }
 
 // What a host is doing as proposer.
-#[derive(Clone, Copy)]
+#[derive(Clone, Copy, Default)]
 pub enum Round {
+    #[default]
     Idle,
     Asking(Asking),
     Proposing(Proposing),
 }
 
-// All that a host keeps but its number, its clock and the end of its wait.
-#[derive(Clone, Copy)]
+// All that a host keeps but its number, its clock and the end of its wait: the promised ballot, the
+// accepted lease, the tick of its last ballot, its round, and the named holder. The first two are
+// not one `Vote`: definitions in specs/ read either alone, as a field of the state.
+#[derive(Clone, Copy, Default)]
 pub struct State {
-    pub promised: Promised,
-    pub accepted: Accepted,
-    pub last: LastBallot,
+    pub promised: Option<Ballot>,
+    pub accepted: Option<Lease>,
+    pub last: Option<u64>,
     pub round: Round,
-    pub named: Named,
+    pub named: Option<Holder>,
 }
 
 impl State {
@@ -73,17 +105,10 @@ impl State {
     pub fn aged_at(self, clock: u64) -> State
         ensures { result ≡ aged_at clock self }
     {
-        let promised = self.promised;
-        let accepted = self.accepted;
-        let last = self.last;
-        let round = self.round;
-        let named = self.named;
         State {
-            promised,
-            accepted: rules::accepted_at(clock, accepted),
-            last,
-            round,
-            named: rules::named_at(clock, named),
+            accepted: rules::accepted_at(clock, self.accepted),
+            named: rules::named_at(clock, self.named),
+            ..self
         }
     }
 
@@ -91,17 +116,11 @@ impl State {
     pub fn released_at(self, clock: u64) -> State
         ensures { result ≡ released_at clock self }
     {
-        let promised = self.promised;
-        let accepted = self.accepted;
-        let last = LastBallot::At(clock);
-        let round = Round::Idle;
-        let named = Named::Nobody;
         State {
-            promised,
-            accepted,
-            last,
-            round,
-            named,
+            last: Some(clock),
+            round: Round::Idle,
+            named: None,
+            ..self
         }
     }
 
@@ -109,25 +128,22 @@ impl State {
     pub fn freed_by(self, m: Head) -> State
         ensures { result ≡ freed_by m self }
     {
-        let promised = self.promised;
-        let accepted = self.accepted;
-        let last = self.last;
-        let round = self.round;
-        let named = self.named;
-        let vote = rules::after_release(Vote { promised, accepted }, m);
-        let promise = vote.promised;
-        let kept = vote.accepted;
+        let vote = Vote {
+            promised: self.promised,
+            accepted: self.accepted,
+        };
+        let Vote { promised, accepted } = rules::after_release(vote, m);
         State {
-            promised: promise,
-            accepted: kept,
-            last,
-            round,
-            named: rules::freed_holder(m, named),
+            promised,
+            accepted,
+            named: rules::freed(m, self.named),
+            ..self
         }
     }
 }
 
 // What whoever reads or writes a cell's frames is handed.
+// A function and no `From`: contracts cite it by the definition of its name.
 pub fn sizes_of(s: Settings) -> Sizes
     ensures { result ≡ sizes_of s }
 {
@@ -140,72 +156,19 @@ pub fn sizes_of(s: Settings) -> Sizes
 pub fn blank_state() -> State
     ensures { result ≡ blank_state }
 {
-    State {
-        promised: Promised::Nothing,
-        accepted: Accepted::Nothing,
-        last: LastBallot::Never,
-        round: Round::Idle,
-        named: Named::Nobody,
-    }
+    State::default()
 }
 
-fn no_promise(p: Promised) -> bool
-    ensures { result ≡ no_promise p }
-{
-    match p {
-        Promised::Nothing => true,
-        Promised::To(_) => false,
-    }
-}
-
-fn no_lease(a: Accepted) -> bool
-    ensures { result ≡ no_lease a }
-{
-    match a {
-        Accepted::Nothing => true,
-        Accepted::One(_) => false,
-    }
-}
-
-fn no_tick(l: LastBallot) -> bool
-    ensures { result ≡ no_tick l }
-{
-    match l {
-        LastBallot::Never => true,
-        LastBallot::At(_) => false,
-    }
-}
-
-fn no_round(r: Round) -> bool
-    ensures { result ≡ no_round r }
-{
-    match r {
-        Round::Idle => true,
-        Round::Asking(_) => false,
-        Round::Proposing(_) => false,
-    }
-}
-
-fn no_holder(m: Named) -> bool
-    ensures { result ≡ no_holder m }
-{
-    match m {
-        Named::Nobody => true,
-        Named::One(_) => false,
-    }
-}
-
-// Whether everything is none.
+// Whether everything is none. Each part is asked by itself: `==` would need rounds and leases to be
+// compared, for a test that only asks whether they are there.
 pub fn is_blank_state(t: State) -> bool
     ensures { result ≡ is_blank_state t }
 {
-    let promised = t.promised;
-    let accepted = t.accepted;
-    let last = t.last;
-    let round = t.round;
-    let named = t.named;
-    no_promise(promised)
-        & (no_lease(accepted) & (no_tick(last) & (no_round(round) & no_holder(named))))
+    t.promised.is_none()
+        && t.accepted.is_none()
+        && t.last.is_none()
+        && matches!(t.round, Round::Idle)
+        && t.named.is_none()
 }
 
 // ---- limits
@@ -214,88 +177,77 @@ pub fn is_blank_state(t: State) -> bool
 pub fn settings_ok(s: Settings) -> bool
     ensures { result ≡ settings_ok s }
 {
-    quorum::cell_fits(s.n)
-        & ((1 <= s.longest) & ((s.longest <= LAST_LONGEST) & (s.spread < s.longest)))
+    quorum::cell_fits(s.n) && (1..=LAST_LONGEST).contains(&s.longest) && s.spread < s.longest
 }
 
 // Whether a lease of this duration, with the spread of clocks, is no longer than the longest.
 pub fn duration_ok(s: Settings, duration: u32) -> bool
     ensures { result ≡ duration_ok s duration }
 {
-    duration as u64 + s.spread as u64 <= s.longest as u64
+    u64::from(duration) + u64::from(s.spread) <= u64::from(s.longest)
 }
 
 // Whether a ballot's tick and host are within their limits.
 pub fn ballot_ok(n: u8, b: Ballot) -> bool
     ensures { result ≡ ballot_ok n b }
 {
-    (b.tick <= LAST_TICK) & (b.host < n)
+    b.tick <= LAST_TICK && b.host < n
 }
 
 // A lease, or a holder, of this ballot, owner and end.
+// Parts and no lease: the two leases have ends of two types, and a round that proposes has none.
 pub fn lease_ok(n: u8, b: Ballot, owner: u8, end: u64) -> bool
     ensures { result ≡ lease_ok n b owner end }
 {
-    ballot_ok(n, b) & ((owner < n) & (end <= LAST_END))
+    ballot_ok(n, b) && owner < n && end <= LAST_END
 }
 
 // Whether the accepted lease is, if there is one.
-pub fn accepted_ok(n: u8, a: Accepted) -> bool
+pub fn accepted_ok(n: u8, a: Option<Lease>) -> bool
     ensures { result ≡ accepted_ok n a }
 {
-    match a {
-        Accepted::Nothing => true,
-        Accepted::One(l) => lease_ok(n, l.ballot, l.owner, l.end.0),
-    }
+    a.is_none_or(|l| lease_ok(n, l.ballot, l.owner, l.end.0))
 }
 
 // Whether the promised ballot is, if there is one.
-pub fn promised_ok(n: u8, p: Promised) -> bool
+pub fn promised_ok(n: u8, p: Option<Ballot>) -> bool
     ensures { result ≡ promised_ok n p }
 {
-    match p {
-        Promised::Nothing => true,
-        Promised::To(b) => ballot_ok(n, b),
-    }
+    p.is_none_or(|b| ballot_ok(n, b))
 }
 
 // Whether the last ballot's tick is, if there is one.
-pub fn last_ok(l: LastBallot) -> bool
+pub fn last_ok(l: Option<u64>) -> bool
     ensures { result ≡ last_ok l }
 {
-    match l {
-        LastBallot::Never => true,
-        LastBallot::At(t) => t <= LAST_TICK,
-    }
+    l.is_none_or(|t| t <= LAST_TICK)
 }
 
-// Whether the named holder is, if there is one.
-pub fn named_ok(n: u8, m: Named) -> bool
+// Whether the named holder is, if there is one: a line for each of the two ends.
+pub fn named_ok(n: u8, m: Option<Holder>) -> bool
     ensures { result ≡ named_ok n m }
 {
-    match m {
-        Named::Nobody => true,
-        Named::One(h) => lease_ok(n, h.ballot, h.owner, h.end.0),
-    }
+    m.is_none_or(|h| lease_ok(n, h.ballot, h.owner, h.end.0))
 }
 
 // Whether an asking round is within its limits, and its ballot is of this host.
 pub fn asking_ok(s: Settings, number: u8, a: Asking) -> bool
     ensures { result ≡ asking_ok s number a }
 {
-    let kept = a.kept;
-    (a.ballot.host == number)
-        & (ballot_ok(s.n, a.ballot)
-            & (duration_ok(s, a.duration)
-                & (quorum::is_below(a.replied, s.n) & accepted_ok(s.n, kept))))
+    a.ballot.host == number
+        && ballot_ok(s.n, a.ballot)
+        && duration_ok(s, a.duration)
+        && quorum::is_below(a.replied, s.n)
+        && accepted_ok(s.n, a.kept)
 }
 
 // Whether a proposing round is within its limits, and its ballot is of this host.
 pub fn proposing_ok(s: Settings, number: u8, p: Proposing) -> bool
     ensures { result ≡ proposing_ok s number p }
 {
-    (p.ballot.host == number)
-        & (lease_ok(s.n, p.ballot, p.owner, p.end.0) & quorum::is_below(p.replied, s.n))
+    p.ballot.host == number
+        && lease_ok(s.n, p.ballot, p.owner, p.end.0)
+        && quorum::is_below(p.replied, s.n)
 }
 
 // Whether a round is, an idle one always.
@@ -313,12 +265,9 @@ pub fn round_ok(s: Settings, number: u8, r: Round) -> bool
 pub fn state_ok(s: Settings, number: u8, t: State) -> bool
     ensures { result ≡ state_ok s number t }
 {
-    let promised = t.promised;
-    let accepted = t.accepted;
-    let last = t.last;
-    let round = t.round;
-    let named = t.named;
-    promised_ok(s.n, promised)
-        & (accepted_ok(s.n, accepted)
-            & (last_ok(last) & (round_ok(s, number, round) & named_ok(s.n, named))))
+    promised_ok(s.n, t.promised)
+        && accepted_ok(s.n, t.accepted)
+        && last_ok(t.last)
+        && round_ok(s, number, t.round)
+        && named_ok(s.n, t.named)
 }

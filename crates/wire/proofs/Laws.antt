@@ -1,14 +1,18 @@
 -- Laws of numbers as bytes, over the width and the offset. Assumes nothing.
 use mathlib.Core.Path.{◌≡◌, refl, ap, ◌∙◌}
-use mathlib.Core.List.{List, [], ◌∷◌, ◌++◌, append-nil, append_assoc}
-use Prim.Native.Nat.{ℕ, zero, suc, ◌+◌, ◌-◌, ◌*◌, ◌/◌, ◌%◌, ◌^◌, ◌≤◌, ◌<◌}
-use native.Mathlib.Nat.{lt_of_lt_of_le}
+use mathlib.Core.List.{List, [], ◌∷◌, ◌++◌, reverse, append-nil, append_assoc}
+use Prim.Native.Nat.{ℕ, zero, suc, ◌+◌, ◌*◌, ◌/◌, ◌%◌, ◌^◌, ◌≤◌, ◌<◌}
 use native.Mathlib.Omega.{arith}
 use lib.ListN.{length, get_or, take, drop, length-append, get_or-append}
 use lib.Seq.{get_or-append-add, sets, drop-cons, drop-drop, take-add}
 use lib.Pow.{pow-add, pow_mono}
+use lib.Bits.{bit_or}
 use lib.Dec.{lit<}
 use Rattle.base.proofs.Stores.{sets_append}
+use Rattle.std.specs.List.{fold}
+use Rattle.std.proofs.lemmas.List.{reverse-append}
+use Rattle.std.proofs.lemmas.List.Sums.{fold-append}
+use Rattle.std.proofs.lemmas.Nat.{or_shifted}
 use Rattle.wire.specs.Wire.{le, number_at, total, numbers_at, packed}
 
 -- 2 ^ (8 * w), one byte more
@@ -30,22 +34,6 @@ pub number_below : (s : List ℕ) (at w : ℕ) → ((i : ℕ) → get_or s i 0 <
 unfolding number_at
 number_below s at zero h = lit< tt
 number_below s at (suc w) h = rw (pow_byte w) (omega (arith, h at, number_below s (suc at) w h))
-
--- and fits 64 bits where w is at most 8
-pub number_fits : (s : List ℕ) (at w : ℕ) → ((i : ℕ) → get_or s i 0 < 256) → w ≤ 8
-    → number_at s at w < 2 ^ 64
-number_fits s at w h k =
-    lt_of_lt_of_le (number_below s at w h) (pow_mono {i = 8 * w} {j = 64} (omega arith))
-
--- the byte in front of a number makes it one byte longer
-pub number_front : (s : List ℕ) (at w i : ℕ) → 0 < i → i ≤ w
-    → get_or s (at + (i - 1)) 0 + 256 * number_at s (at + i) (w - i)
-    ≡ number_at s (at + (i - 1)) (w - (i - 1))
-unfolding number_at
-number_front s at w i p q =
-    let e : w - (i - 1) ≡ suc (w - i) = omega arith in
-    let f : at + i ≡ suc (at + (i - 1)) = omega arith in
-    rw (e, f)
 
 -- a number of one byte is that byte
 pub number_one : (s : List ℕ) (at : ℕ) → number_at s at 1 ≡ get_or s at 0
@@ -69,6 +57,31 @@ number_within p q at zero h = refl
 number_within p q at (suc w) h =
     let k : at < length p = omega arith in
     rw (get_or-append p q 0 at k, number_within p q (suc at) w (omega arith))
+
+-- bytes taken from the last to the first, each below those before, make their number
+abbrev pub taken : ℕ → ℕ → ℕ
+taken v byte = bit_or (v * 2 ^ 8 % 2 ^ 64) byte
+
+pub number_taken : (s : List ℕ) (at w : ℕ) → ((i : ℕ) → get_or s i 0 < 256) → at + w ≤ length s
+    → w ≤ 8 → fold taken 0 (reverse (take w (drop at s))) ≡ number_at s at w
+unfolding number_at
+number_taken s at zero h k l = refl
+number_taken s at (suc w) h k l =
+    let b = get_or s at 0 in
+    let v = number_at s (suc at) w in
+    let rest = take w (drop (suc at) s) in
+    let within : at < length s = omega arith in
+    let top : 2 ^ (8 * w) ≤ 2 ^ 56 = pow_mono {i = 8 * w} {j = 56} (omega arith) in
+    let fits : v * 2 ^ 8 % 2 ^ 64 ≡ v * 2 ^ 8 = omega (arith, number_below s (suc at) w h) in
+    rw (
+      drop-cons s at 0 within,
+      reverse-append (b ∷ []) rest,
+      fold-append taken 0 (reverse rest) (b ∷ []),
+      number_taken s (suc at) w h (omega arith) (omega arith),
+      fits,
+      or_shifted v 8 b (h at),
+    )
+    (omega arith)
 
 -- ---- there and back
 

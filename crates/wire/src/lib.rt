@@ -1,25 +1,25 @@
-// Little-endian numbers in lent bytes, read and written at an offset, over the width.
+// Little-endian numbers of a number of bytes, read from lent bytes and written into them at an
+// offset.
 #![tactic(auto)]
 
 ghost use Rattle.std.specs.Prelude.{◌≡◌, ◌+◌, ◌*◌, ◌≤◌, ◌<◌, ◌^◌, length};
 ghost use Rattle.std.proofs.lemmas.List.Edits.{sets};
 ghost use Rattle.wire.specs.Wire.{le, number_at};
 
-// The number in the w bytes at `at`.
+// The number in the w bytes at `at`. With `u64::from_le_bytes` reading takes 1.23 to 1.32 of the
+// hand-written time in perf/frames, above its mark of 1.2.
 pub fn get(s: &[u8], at: usize, w: usize) -> u64
     requires { (at + w ≤ length s.now) × (w ≤ 8) }
     ensures { (result ≡ number_at s.now at w) × (result < 2 ^ (8 * w)) }
 {
-    let mut v: u64 = 0;
-    let mut i = w;
-    while 0 < i {
-        i = i - 1;
-        v = (s[at + i] as u64) + 256 * v;
-    }
-    v
+    s[at..at + w]
+        .iter()
+        .rev()
+        .fold(0, |v, byte| v << 8 | u64::from(*byte))
 }
 
 // The byte at `at`.
+#[tactic(auto, using(crate::proofs::Laws::number_one))]
 pub fn byte(s: &[u8], at: usize) -> u8
     requires { at < length s.now }
     ensures { result ≡ number_at s.now at 1 }
@@ -27,16 +27,15 @@ pub fn byte(s: &[u8], at: usize) -> u8
     s[at]
 }
 
-// Writes v into the w bytes at `at`; what of v lies above them is not written.
+// Writes v into the w bytes at `at`; what of v lies above them is not written. The contract allows
+// every w, so `to_le_bytes`, which has 8, does not do.
 pub fn put(out: &mut [u8], at: usize, w: usize, v: u64)
     requires { at + w ≤ length out.old }
     ensures { out.new ≡ sets out.old at (le w v) }
 {
     let mut rest = v;
-    let mut i = 0;
-    while i < w {
-        out[at + i] = (rest % 256) as u8;
-        rest = rest / 256;
-        i = i + 1;
+    for byte in &mut out[at..at + w] {
+        *byte = (rest % 256) as u8;
+        rest /= 256;
     }
 }

@@ -1,14 +1,14 @@
--- `put_end` writes the last lines: the stop, if the record is a fault, and the counts.
-use Rattle.text.proofs.Laws.{put_then}
+-- `put_end` puts the stop, if the record is a fault, and the counts.
+use Rattle.text.proofs.Laws.{wrote_then}
 use Rattle.listing.proofs.Ending.{no_fault, last_fault}
 use Rattle.listing.proofs.put_end.Goals as goal
-
-pub returns-in_default : goal.returns-in_default
-returns-in_default c =
-    rw (no_fault _ _ _ c.args.r c.in_default.not-Fault)
-    c.put_counts.ensures
+use Rattle.listing.proofs.put_end.Goals.{in-Fault, in_default}
 
 pub returns : goal.returns
 returns c =
-    rw (c.in-Fault.is, last_fault _ _ _ _ _)
-    (put_then c.put_stop-end.ensures.0 c.put_counts-2.ensures)
+    elim c.match-r.branch [
+      | in-Fault w ↦ rw (w.in-Fault.is, ← w.number.ensures, last_fault _ _ _ _ _)
+          (wrote_then w.put_stop.ensures.wrote (rw w.page-is at c.put_counts.ensures))
+      | in_default w ↦ rw (no_fault _ _ _ c.args.r w.in_default.not-Fault)
+          (rw w.page-is at c.put_counts.ensures)
+    ]

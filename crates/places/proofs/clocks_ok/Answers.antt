@@ -1,41 +1,38 @@
--- `clocks_ok`: the walk finds the earliest and the latest clock of the first i hosts (`Span`), and
--- these two are at most S apart exactly where any two clocks are (`span_clocks`).
-use borrow.Author.Rules.{rules}
-use mathlib.Core.Path.{◌≡◌, refl, ◌∙◌}
-use Prim.Native.Nat.{◌≤◌}
-use native.Mathlib.Omega.{arith}
-use lib.ListN.{length}
+-- `clocks_ok`: the walk finds the earliest and the latest clock of the hosts (`Span`), and these
+-- two are at most S apart exactly where any two clocks are (`span_clocks`).
+use Rattle.std.proofs.Common.{rules, arith, ◌≡◌, ◌+◌, ◌-◌, min, max, length, get_or, drop}
+use Rattle.std.proofs.Common.{ap, ◌∙◌}
+use Rattle.std.proofs.lemmas.List.{get_or-take}
+use Rattle.std.proofs.lemmas.Grind.{get_or_after_one}
+use borrow.Rule.Slice.PartMut.{mid_of, mid_len}
+use Rattle.places.specs.Places.{blank_host}
 use Rattle.places.proofs.PlaceLimits.{clock_at}
-use Rattle.places.proofs.Walks.{span_first, span_next, span_clocks}
+use Rattle.places.proofs.Walks.{Span, span_next, span_clocks}
 use Rattle.places.proofs.clocks_ok.Goals as goal
 
-pub loop-i-init : goal.loop-i-init
-loop-i-init c =
+pub loop-h-preserved : goal.loop-h-preserved
+loop-h-preserved c =
     let a = c.args in
-    let p = c.requires in
-    (search rules, refl, p.1, omega arith, p.0, span_first 0 (clock_at a.hosts))
-
-pub loop-i-preserved : goal.loop-i-preserved
-loop-i-preserved c =
-    let a = c.args in
-    let l = c.loop-i in
-    let on =
-    span_next 0 (clock_at a.hosts) l.i l.low l.high
-    (λ e. absurd (omega (arith, e, l.invariant.3))) l.invariant.5 in (
-      l.invariant.0,
-      refl,
-      l.invariant.2,
-      omega arith,
-      omega arith,
-      rw (c.earlier_of-low.ensures, c.later_of-high.ensures) on,
-    )
+    let l = c.loop-h in
+    let hs = a.hosts.now in
+    let k = a.s.n - 1 in
+    let i = l.h-index + 1 in
+    let many : length (mid_of 1 k hs) ≡ k = mid_len 1 a.s.n hs (search rules) in
+    let here : get_or (mid_of 1 k hs) l.h-index blank_host ≡ get_or hs i blank_host =
+    get_or-take k (drop 1 hs) l.h-index blank_host (omega (arith, many, c.loop-h-test.true))
+    ∙ get_or_after_one hs l.h-index blank_host
+    ∙ ap (λ j. get_or hs j blank_host) (omega arith) in
+    let on : Span 0 (clock_at hs) (i + 1) (min l.low (clock_at hs i)) (max l.high (clock_at hs i)) =
+    span_next 0 (clock_at hs) i l.low l.high (λ e. absurd (omega (arith, e))) l.invariant in
+    rw (c.min-low.ensures, c.max-high.ensures, here) on
 
 pub returns : goal.returns
 returns c =
     let a = c.args in
-    let l = c.loop-i in
-    let e : l.i ≡ a.s.n = omega (arith, l.invariant.4, c.loop-i-test.false) in
-    let few : a.s.n ≤ length a.hosts = omega (arith, l.invariant.0, l.invariant.2) in
+    let l = c.loop-h in
+    let many : length (mid_of 1 (a.s.n - 1) a.hosts.now) ≡ a.s.n - 1 =
+    mid_len 1 a.s.n a.hosts.now (search rules) in
+    let e : l.h-index + 1 ≡ a.s.n =
+    omega (arith, many, l.auto.h-index-end, c.requires.0, c.loop-h-test.false) in
     c.spread_ok.ensures
-    ∙ span_clocks a.s a.hosts 0 l.low l.high
-    c.requires.0 few (rw e at l.invariant.5)
+    ∙ span_clocks a.s a.hosts.now 0 l.low l.high c.requires.0 (search rules) (rw e at l.invariant)

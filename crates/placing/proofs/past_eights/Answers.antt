@@ -9,7 +9,7 @@ use Rattle.placing.proofs.past_eights.Goals.{In-loop-j}
 
 -- eight are taken
 eight : (c : In-loop-j)
-    → Passed c.args.marks.now c.args.from
+    → Passed c.args.free.now c.args.from
     (c.loop-j.j + 8)
 eight c =
     passed_eight c.loop-j.invariant
@@ -17,7 +17,7 @@ eight c =
 
 pub loop-j-init : goal.loop-j-init
 loop-j-init c =
-    passed_first _ _ c.requires.0
+    passed_first _ _ c.requires
 
 pub overflow_add-j : goal.overflow_add-j
 overflow_add-j c =

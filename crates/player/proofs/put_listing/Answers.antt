@@ -1,10 +1,13 @@
 -- `put_listing` writes the listing of any bytes: a lone stop where they are too many or their first
 -- record is a fault, and else that of the settings that were read.
+use mathlib.Core.Path.{ap}
 use Prim.Native.Nat.{◌≤◌, ◌<◌}
 use native.Mathlib.Omega.{arith}
 use lib.ListN.{length}
 use borrow.Author.Tests.{ltb-true, ltb-false}
 use Rattle.base.proofs.Tests.{told}
+use Rattle.text.specs.Parts.{HasRoom}
+use Rattle.record.specs.Read.{numbered_first}
 use Rattle.record.proofs.Laws.{first_there}
 use Rattle.listing.specs.Listing.{longest_run, listing_room}
 use Rattle.player.proofs.Opening.{room_long, room_short, listing_long}
@@ -20,7 +23,7 @@ short : (c : Else-is_long) → length c.args.run.now ≤ longest_run
 short c = ltb-false _ _ (told c.is_long.ensures c.if-is_long.false)
 
 -- the room for a listing, where it is not too long
-room : (c : Else-is_long) → listing_room ≤ length c.args.out.now
+room : (c : Else-is_long) → HasRoom c.args.page.now listing_room
 room c = rw (room_short _ (short c)) at c.requires
 
 -- a file that is too long
@@ -36,23 +39,22 @@ returns-then-is_long c =
 pub put_stop-requires : goal.put_stop-requires
 put_stop-requires c = omega (arith, room (goal.at.put_stop-requires c).Else-is_long)
 
-pub returns-in_default : goal.returns-in_default
-returns-in_default c =
-    rw (listing_fault _ _ _ (short (goal.at.returns-in_default c).Else-is_long)
-    (told c.first_record-first.ensures c.in_default.is))
-    (rw (c.first_fault-number.ensures, c.first_offset-offset.ensures, c.in_default.is) at
-    c.put_stop.ensures.0)
+pub returns-in-Err : goal.returns-in-Err
+returns-in-Err c =
+    rw (listing_fault _ _ _ (short (goal.at.returns-in-Err c).Else-is_long)
+    (told c.first_record.ensures (ap numbered_first c.in-Err.is)))
+    (rw c.number.ensures at c.put_stop.ensures.wrote)
 
 -- settings that were read
 pub put_opened-requires : goal.put_opened-requires
 put_opened-requires c =
     let here = (goal.at.put_opened-requires c).Else-is_long in (
-      (first_there _ _ _ (told c.first_record-first.ensures c.in-Given.is), short here),
+      (first_there _ _ _ (told c.first_record.ensures (ap numbered_first c.in-Ok.is)), short here),
       room here,
     )
 
-pub returns : goal.returns
-returns c =
-    rw (listing_opened _ _ _ (short (goal.at.returns c).Else-is_long)
-    (told c.first_record-first.ensures c.in-Given.is))
+pub returns-in-Ok : goal.returns-in-Ok
+returns-in-Ok c =
+    rw (listing_opened _ _ _ (short (goal.at.returns-in-Ok c).Else-is_long)
+    (told c.first_record.ensures (ap numbered_first c.in-Ok.is)))
     c.put_opened.ensures

@@ -1,38 +1,25 @@
--- `next_in` passes over the hosts that are not in the set: what is found from h on is what is found
--- from the start on.
-use mathlib.Core.Path.{refl, sym, ◌∙◌}
-use native.Mathlib.Omega.{arith}
-use Rattle.base.proofs.Tests.{told}
-use Rattle.quorum.proofs.Next.{next_here, next_later, next_end}
+-- `next_in`: what the search over the range finds is the next one, and where it finds none, n is.
+use Rattle.std.proofs.Common.{◌≡◌, ◌-◌, ℕ, ◌≤◌, ◌<◌, true, false, sym, ◌∙◌, arith, rules, tests}
+use Rattle.std.specs.Prelude.{Option, Some, None, unwrap_or, MatchOption}
+use Rattle.std.proofs.lemmas.Iterator.{first_from_Range}
+use Rattle.quorum.specs.Sets.{is_in}
+use Rattle.quorum.specs.Parts.{next_in}
+use Rattle.quorum.proofs.Next.{next_first}
 use Rattle.quorum.proofs.next_in.Goals as goal
 
-pub loop-h-init : goal.loop-h-init
-loop-h-init c =
-    (c.requires.1, c.requires.0, refl)
-
-pub is_in-requires : goal.is_in-requires
-is_in-requires c =
-    let l = c.loop-h in omega (arith, l.invariant.0, c.loop-h-test.true)
-
-pub returns-then-is_in : goal.returns-then-is_in
-returns-then-is_in c =
-    let t = c.before.before in
-    let l = t.loop-h in
-    sym
-    (l.invariant.2
-    ∙ next_here _ _ _ t.loop-h-test.true (told c.is_in.ensures c.if-is_in.true))
-
-pub loop-h-preserved : goal.loop-h-preserved
-loop-h-preserved c =
-    let t = c.before.before in
-    let l = t.loop-h in (
-      l.invariant.0,
-      omega (arith, t.loop-h-test.true),
-      l.invariant.2
-          ∙ next_later _ _ _ t.loop-h-test.true
-          (told c.is_in.ensures c.if-is_in.false),
-    )
+found : (set from n : ℕ) (r : Option ℕ) → from ≤ n
+    → MatchOption r ((k : ℕ) → from ≤ k → k < n → is_in set k ≡ false)
+    (λ i. (from ≤ i) × (i < n) × (is_in set i ≡ true)
+    × ((k : ℕ) → from ≤ k → k < i → is_in set k ≡ false))
+    → unwrap_or r n ≡ next_in set from n
+found set from n None b m =
+    sym (next_first set from (n - from) n b (omega arith) (λ p. absurd (omega arith)) m)
+found set from n (Some i) b m =
+    sym (next_first set from (n - from) i m.0 (omega arith) (λ p. m.2) m.3)
 
 pub returns : goal.returns
 returns c =
-    let l = c.loop-h in sym (l.invariant.2 ∙ next_end _ _ _ c.loop-h-test.false)
+    c.unwrap_or.ensures ∙
+    (found c.args.set c.args.from c.args.n c.find.result c.requires.0
+    (first_from_Range _ _ _ _ (λ h. is_in c.args.set h ≡ true) (λ h. is_in c.args.set h ≡ false)
+    c.find.ensures.ran (λ x q k. search (rules, tests)) (λ x q k. search (rules, tests))))

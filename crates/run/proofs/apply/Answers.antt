@@ -1,35 +1,36 @@
--- `apply` is `event_of` of any cell: 1 past the limits (`past_limits`), within them a run of one.
+-- `apply` is `event_of` of any cell: 1 past the limits, within them the event of a cell that runs.
 use mathlib.Core.Path.{sym, ◌∙◌}
-use native.Mathlib.Omega.{arith}
 use borrow.Author.Rules.{rules}
 use Rattle.base.proofs.Lists.{length_mapped}
-use Rattle.acts.proofs.Acts.{past_limits}
-use Rattle.run.proofs.Playing.{one_event, one_ahead}
+use Rattle.cell.specs.Claims.{Sized}
+use Rattle.run.proofs.Acting.{past_limits, answers_event}
 use Rattle.run.proofs.apply.Goals as goal
+use Rattle.run.proofs.apply.Goals.{After-new-running}
 
 pub returns-then-not-within_limits : goal.returns-then-not-within_limits
 returns-then-not-within_limits c =
-    past_limits _ _
-    (sym c.within_limits.ensures
-    ∙ c.if-not-within_limits.true)
+    past_limits _ _ (sym c.within_limits.ensures ∙ c.if-not-within_limits.true)
 
-pub play-p-requires : goal.play-p-requires
-play-p-requires c =
-    let t = c.within_limits in
-    let few = one_ahead c.args.e in
+sized : (c : After-new-running) → Sized c.args.cell
+sized c =
     record {
-      sound = (
-        record {
-          hosts = search (rules, length_mapped);
-          slots = search (rules, length_mapped);
-        },
-        sym t.ensures ∙ c.if-not-within_limits.false,
+      hosts = search (rules, length_mapped);
+      slots = c.new-running.ensures.free.slots;
+    }
+
+pub event-requires : goal.event-requires
+event-requires c =
+    let new = c.new-running.ensures in
+    record {
+      sound = rw new.cell (
+        sized (goal.at.event-requires c).After-new-running,
+        sym c.within_limits.ensures ∙ c.if-not-within_limits.false,
       );
-      short = omega (arith, few);
-      room = omega (arith, few);
+      frees = rw new.cell new.free;
     }
 
 pub returns : goal.returns
 returns c =
-    c.play-p.ensures.left
-    ∙ one_event _ _
+    answers_event _ _ (sized (goal.at.returns c).After-new-running) _ _ _ _
+    (λ q. search rules) (λ k q. search rules)
+    (rw c.new-running.ensures.cell at c.event.ensures.is)

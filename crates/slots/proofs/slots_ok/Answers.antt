@@ -1,31 +1,16 @@
--- `slots_ok`: every slot is within its limits. At slot i the answer for all is the answer for those
--- from i on (`Walked`), and the first slot that fails ends the walk.
-use borrow.Author.Rules.{rules}
-use mathlib.Core.Path.{sym}
-use native.Mathlib.Omega.{arith}
-use Rattle.base.proofs.Lists.{walked_first, walked_next, walked_fault, walked_end}
-use Rattle.base.proofs.Tests.{told}
-use Rattle.slots.specs.Slots.{empty_slot, slots_ok}
+-- `slots_ok`: what `all` finds of the slots is the definition's walk (`all_every`).
+use Rattle.std.proofs.Common.{rules, tests, ◌∙◌}
+use Rattle.std.proofs.lemmas.Iterator.{YieldsList-from_slice}
+use Rattle.std.proofs.lemmas.Iterator.Search.{all_from_yields_List}
+use Rattle.base.proofs.Lists.{all_every}
+use Rattle.slots.specs.Slots.{content_ok, slots_ok}
+use Rattle.slots.specs.declared.Slot.{Slot}
 use Rattle.slots.proofs.slots_ok.Goals as goal
-
-pub loop-i-init : goal.loop-i-init
-unfolding slots_ok
-loop-i-init c =
-    walked_first _ _ _ (search rules)
-
-pub returns-then-not-content_ok : goal.returns-then-not-content_ok
-unfolding slots_ok
-returns-then-not-content_ok c =
-    sym (walked_fault c.loop-i.invariant empty_slot (omega (arith, c.loop-i-test.true))
-    (told c.content_ok.ensures c.if-not-content_ok.true))
-
-pub loop-i-preserved : goal.loop-i-preserved
-unfolding slots_ok
-loop-i-preserved c =
-    walked_next c.loop-i.invariant empty_slot (omega (arith, c.loop-i-test.true))
-    (told c.content_ok.ensures c.if-not-content_ok.false)
 
 pub returns : goal.returns
 unfolding slots_ok
 returns c =
-    sym (walked_end c.loop-i.invariant (omega (arith, c.loop-i-test.false)))
+    let a = c.args in
+    all_from_yields_List (λ (s : Slot). content_ok a.z s.content) _ _ _ c.all.ensures.ran
+    (YieldsList-from_slice a.slots.now cc) (λ x b q k. search (rules, tests))
+    ∙ all_every (λ (s : Slot). content_ok a.z s.content) 0 a.slots.now

@@ -1,17 +1,8 @@
--- `put` stores the w lowest bytes of a number, each turn the lowest of what is left.
--- what is left to store, stored now, makes what the whole makes
-use mathlib.Core.Path.{◌≡◌}
-use Prim.Native.Nat.{◌+◌, ◌-◌, ◌≤◌}
-use lib.ListN.{length}
-use lib.Seq.{sets}
+-- `put`: what is written, and then what is left to write, is the whole.
+use Rattle.std.proofs.Common.{◌≡◌, ◌-◌, ◌++◌, take}
 use Rattle.wire.specs.Wire.{le}
 use Rattle.wire.proofs.put.Given as goal
 
-abbrev pub invariant-loop-i : goal.invariant-loop-i
-invariant-loop-i l =
-    (l.i ≤ l.w)
-    × ((length l.out ≡ length l.initial.out)
-    × (sets l.out (l.at + l.i) (le (l.w - l.i) l.rest) ≡ sets l.initial.out l.at (le l.w l.v)))
-
-abbrev pub decreases-loop-i : goal.decreases-loop-i
-decreases-loop-i l = l.w - l.i
+abbrev pub invariant-loop-byte : goal.invariant-loop-byte
+invariant-loop-byte l =
+    take l.byte-index l.byte-items ++ le (l.w - l.byte-index) l.rest ≡ le l.w l.v
