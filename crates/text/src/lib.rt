@@ -6,8 +6,8 @@ ghost use Rattle.text.specs.Text.{decimal, spaced};
 ghost use Rattle.text.specs.Parts.{Wrote, HasRoom};
 
 // Lent bytes that are written from the front on, and how many are. No `fmt::Write`: its `write_str`
-// Each method asks for another room by `HasRoom`, which an invariant could not say.
-// may fail and takes a `str`, where these methods cannot, by their contracts, and take bytes.
+// may fail and takes a `str`, where these methods cannot, by their contracts, and take bytes. Each
+// method asks for another room by `HasRoom`, which an invariant could not say.
 #[derive(Drop)]
 pub struct Page<'a> {
     pub out: &'a mut [u8],
