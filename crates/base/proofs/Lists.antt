@@ -1,15 +1,16 @@
 -- Laws of lists: what holds of each element, one element replaced, a list from a place on, and a
--- test of each element. Assumes nothing.
+-- walk that tests each element. Assumes nothing.
 use mathlib.Core.Path.{◌≡◌, refl, sym, ap, ◌∙◌}
-use mathlib.Core.Bool.{Bool, true}
+use mathlib.Core.Bool.{Bool, true, false}
 use mathlib.Core.List.{List, [], ◌∷◌, map}
-use Prim.Native.Nat.{ℕ, zero, suc, ◌+◌, ◌<◌}
+use Prim.Native.Nat.{ℕ, zero, suc, ◌+◌, ◌≤◌, ◌<◌}
 use native.Mathlib.Nat.{add-zero, not-suc-le-zero, le_of_suc-le-suc}
 use native.Mathlib.Numerals.{add-one}
 use native.Mathlib.Omega.{arith}
-use lib.ListN.{length, get_or, set, drop, replicate, length-map}
+use lib.ListN.{length, get_or, set, drop, replicate, length-map, drop_of_length-le}
 use lib.Seq.{drop-cons}
 use Rattle.std.specs.List.{list_all, enumerate_from}
+use Rattle.std.proofs.lemmas.List.{set_comm}
 use Rattle.base.specs.Lists.{All, every, all_of}
 use Rattle.base.proofs.Tests.{both, and_true}
 
@@ -50,6 +51,11 @@ by_place P (y ∷ xs) zero x (suc k) d p q = q
 by_place P (y ∷ xs) (suc h) x zero d p q = q
 by_place P (y ∷ xs) (suc h) x (suc k) d p q = by_place P xs h x k d (λ e. p (ap suc e)) q
 
+-- two stores at different places, in either order
+pub set_set : {A : Type 0} (xs : List A) (i j : ℕ) (a b : A) → (i ≡ j → ⊥)
+    → set (set xs i a) j b ≡ set (set xs j b) i a
+set_set xs i j a b d = set_comm xs i j a b d
+
 -- ---- from a place on
 
 -- the elements from i on are element i and the rest
@@ -63,7 +69,37 @@ pub length_mapped : {A B : Type 0} (f : A → B) (l : List A) (n : ℕ) → leng
     → length l ≡ n
 length_mapped f l n e = sym (length-map l f) ∙ e
 
--- ---- a test of each element: what it tells of each place, and from each
+-- ---- a walk that tests each element: where it stands before place i, its next turn, a turn that
+-- fails, and its end
+
+pub record Walked {A : Type 0} (f : ℕ → A → Bool) (n : ℕ) (xs : List A) (i : ℕ) : Type 0 where
+  pub long : length xs ≡ n
+  pub rest : every f 0 xs ≡ every f i (drop i xs)
+
+pub walked_first : {A : Type 0} (f : ℕ → A → Bool) (n : ℕ) (xs : List A) → length xs ≡ n
+    → Walked f n xs 0
+walked_first f n xs e = record { long = e; rest = refl }
+
+module _ {A : Type 0} {f : ℕ → A → Bool} {n : ℕ} {xs : List A} {i : ℕ} (w : Walked f n xs i) where
+  module _ (d : A) (h : i < n) where
+    split : every f 0 xs ≡ every f i (get_or xs i d ∷ drop (i + 1) xs)
+    split = w.rest ∙ ap (every f i) (from_place xs i d (omega (arith, h, w.long)))
+
+    pub walked_next : f i (get_or xs i d) ≡ true → Walked f n xs (i + 1)
+    unfolding every
+    walked_next e = record { long = w.long; rest = split ∙ rw (e, add-one i) }
+
+    pub walked_fault : f i (get_or xs i d) ≡ false → every f 0 xs ≡ false
+    unfolding every
+    walked_fault e = split ∙ rw e
+
+  pub walked_end : n ≤ i → every f 0 xs ≡ true
+  unfolding every
+  walked_end h =
+      let b : length xs ≤ i = omega (arith, h, w.long) in
+      w.rest ∙ ap (every f i) (drop_of_length-le xs b)
+
+-- what such a walk tells of each place, and from each
 
 pub every_in : {A : Type 0} (f : ℕ → A → Bool) (i : ℕ) (xs : List A) (d : A) → every f i xs ≡ true
     → (k : ℕ) → k < length xs → f (i + k) (get_or xs k d) ≡ true
