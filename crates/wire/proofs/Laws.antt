@@ -1,7 +1,8 @@
 -- Laws of numbers as bytes, over the width and the offset. Assumes nothing.
 use mathlib.Core.Path.{◌≡◌, refl, ap, ◌∙◌}
 use mathlib.Core.List.{List, [], ◌∷◌, ◌++◌, reverse, append-nil, append_assoc}
-use Prim.Native.Nat.{ℕ, zero, suc, ◌+◌, ◌*◌, ◌/◌, ◌%◌, ◌^◌, ◌≤◌, ◌<◌}
+use Prim.Native.Nat.{ℕ, zero, suc, ◌+◌, ◌-◌, ◌*◌, ◌/◌, ◌%◌, ◌^◌, ◌≤◌, ◌<◌}
+use native.Mathlib.Nat.{lt_of_lt_of_le}
 use native.Mathlib.Omega.{arith}
 use lib.ListN.{length, get_or, take, drop, length-append, get_or-append}
 use lib.Seq.{get_or-append-add, sets, drop-cons, drop-drop, take-add}
@@ -34,6 +35,22 @@ pub number_below : (s : List ℕ) (at w : ℕ) → ((i : ℕ) → get_or s i 0 <
 unfolding number_at
 number_below s at zero h = lit< tt
 number_below s at (suc w) h = rw (pow_byte w) (omega (arith, h at, number_below s (suc at) w h))
+
+-- and fits 64 bits where w is at most 8
+pub number_fits : (s : List ℕ) (at w : ℕ) → ((i : ℕ) → get_or s i 0 < 256) → w ≤ 8
+    → number_at s at w < 2 ^ 64
+number_fits s at w h k =
+    lt_of_lt_of_le (number_below s at w h) (pow_mono {i = 8 * w} {j = 64} (omega arith))
+
+-- the byte in front of a number makes it one byte longer
+pub number_front : (s : List ℕ) (at w i : ℕ) → 0 < i → i ≤ w
+    → get_or s (at + (i - 1)) 0 + 256 * number_at s (at + i) (w - i)
+    ≡ number_at s (at + (i - 1)) (w - (i - 1))
+unfolding number_at
+number_front s at w i p q =
+    let e : w - (i - 1) ≡ suc (w - i) = omega arith in
+    let f : at + i ≡ suc (at + (i - 1)) = omega arith in
+    rw (e, f)
 
 -- a number of one byte is that byte
 pub number_one : (s : List ℕ) (at : ℕ) → number_at s at 1 ≡ get_or s at 0
