@@ -3,20 +3,30 @@
 use mathlib.Core.Path.{◌≡◌, refl, sym, ap, ◌∙◌}
 use mathlib.Core.Bool.{Bool, true, false, cond, ◌||◌}
 use mathlib.Core.List.{List, [], ◌∷◌}
-use Prim.Native.Nat.{ℕ, zero, suc, ◌+◌, ◌-◌, ◌/◌, ◌%◌, ◌^◌, ◌≤◌, ◌<◌}
-use native.Mathlib.Nat.{mod-lt, div-eq_of_lt, div-one, zero-div}
+use Prim.Native.Nat.{ℕ, zero, suc, ◌+◌, ◌-◌, ◌*◌, ◌/◌, ◌%◌, ◌^◌, ◌≤◌, ◌<◌}
+use native.Mathlib.Nat.{one-mul, mod-lt, div-eq_of_lt, div-one, zero-div}
 use native.Mathlib.Decide.{dec_lt, ℕ_discrete}
 use native.Mathlib.Omega.{arith}
 use lib.Count.{ones, ones_in, ones_step}
 use lib.Dec.{lit<, eqb, ltb}
 use lib.ListN.{length}
-use lib.Pow.{shr-shr, pow_mono, pow-lt}
+use lib.Pow.{shl_exact, shr-shr, pow_mono, pow-lt}
 use borrow.Author.Tests.{ltb-true, eqb-true, lt-ltb, eq-eqb, ne_eqb}
-use Rattle.std.proofs.lemmas.Nat.Bits.{bit_at-suc, bit_at-pow_same, bit_at-pow_other}
+use Rattle.std.proofs.lemmas.Nat.Bits.{bit_at-lt, bit_at-suc, bit_at-pow_same, bit_at-pow_other}
 use Rattle.base.specs.Lists.{All}
 use Rattle.base.proofs.Tests.{true_false}
 use Rattle.quorum.specs.Sets.{Member, bit, is_in, single_of, is_below, is_only, members_from}
 use Rattle.quorum.specs.Sets.{members}
+
+-- a bit of a `u16` by a shift
+pub shifted : (i : ℕ) → i < 16 → (1 * 2 ^ i) % 2 ^ 16 ≡ 2 ^ i
+shifted i h = shl_exact {a = 1} 1 i 16 (lit< tt) (omega arith) ∙ one-mul (2 ^ i)
+
+pub bit_le : (s i : ℕ) → bit s i < 2
+bit_le s i = bit_at-lt s i
+
+pub bit_next : (s i : ℕ) → bit (s / 2) i ≡ bit s (suc i)
+bit_next s i = sym (bit_at-suc s i)
 
 -- a `u16` is below 2^n from n = 16 on, and so not one host's set
 pub below_beyond : (s n : ℕ) → s < 2 ^ 16 → 16 ≤ n → ltb s (2 ^ n) ≡ true
@@ -26,6 +36,14 @@ pub other_beyond : (s n : ℕ) → s < 2 ^ 16 → 16 ≤ n → eqb s (2 ^ n) ≡
 other_beyond s n h k =
     let p = pow_mono {i = 16} {j = n} k in
     ne_eqb s (2 ^ n) (λ e. omega arith)
+
+-- ---- the set of one host
+
+pub single_same : (i : ℕ) → bit (single_of i) i ≡ 1
+single_same i = bit_at-pow_same i
+
+pub single_other : (h i : ℕ) → (h ≡ i → ⊥) → bit (single_of h) i ≡ 0
+single_other h i e = bit_at-pow_other h i (λ d. e (sym d))
 
 -- ---- what the hosts that a set names tell of it
 
@@ -109,7 +127,7 @@ only_one set h i o m = go (eqb set 0) (eqb set (single_of h)) refl refl o (ℕ_d
         absurd (omega (arith, one))
     go false true p q o (no e) =
         let z : bit set i ≡ 0 = ap (λ (s : ℕ). bit s i) (eqb-true set (single_of h) q)
-        ∙ bit_at-pow_other h i (λ d. e (sym d)) in
+        ∙ single_other h i e in
         absurd (omega (arith, one))
     go false false p q o (no e) = true_false (sym o)
 
@@ -231,12 +249,12 @@ members_lone t h (suc k) a b =
         → cond (is_in (single_of t) h) (h ∷ members_from (single_of t) (suc h) k)
         (members_from (single_of t) (suc h) k) ≡ t ∷ []
     go (yes e) f =
-        let one : bit (single_of t) h ≡ 1 = rw e (bit_at-pow_same h) in
+        let one : bit (single_of t) h ≡ 1 = rw e (single_same h) in
         let none =
         members_none (single_of t) (suc h) k
         (div-eq_of_lt (pow-lt {i = t} {j = suc h} (omega arith))) in
         rw (one, none, e)
-    go (no d) f = rw (bit_at-pow_other t h (λ e. d (sym e))) (f d)
+    go (no d) f = rw (single_other t h d) (f d)
 
 pub members_single : (n t : ℕ) → t < n → members n (single_of t) ≡ t ∷ []
 members_single n t b = members_lone t 0 n (omega arith) (omega arith)

@@ -12,10 +12,10 @@ use lib.Count.{ones, ones_in, ones_step, ones_cat}
 use lib.Pow.{pow_pos, pow-lt, mod-pow-add}
 use lib.Dec.{eqb}
 use borrow.Author.Tests.{leb-true, lt-leb, eqb-true, eqb-false, eq-eqb, ne_eqb}
-use Rattle.std.proofs.lemmas.Nat.Bits.{bit_at-lt, bit_at-suc, bit_at_or}
-use Rattle.std.proofs.lemmas.Nat.Bits.{bit_at-pow_same, bit_at-pow_other}
+use Rattle.std.proofs.lemmas.Nat.Bits.{bit_at_or}
 use Rattle.quorum.specs.Sets.{bit, is_in, single_of, with_host, everyone_of, others_of, size_of}
 use Rattle.quorum.specs.Sets.{majority_size, is_majority}
+use Rattle.quorum.proofs.Laws.{bit_le, bit_next, single_same, single_other}
 
 -- ---- sums by index
 
@@ -56,7 +56,7 @@ ones_sum s (suc k) =
     ap (λ (m : ℕ). ones (s % 2 ^ m)) (sym (one-add k))
     ∙ ap ones (mod-pow-add s 1 k)
     ∙ ones_cat k (bit s k) (s % 2 ^ k) (mod-lt s (pow_pos k))
-    ∙ ap₂ ◌+◌ (ones_bit (bit s k) (bit_at-lt s k)) (ones_sum s k)
+    ∙ ap₂ ◌+◌ (ones_bit (bit s k) (bit_le s k)) (ones_sum s k)
     ∙ add_comm (bit s k) (sum (bit s) k)
 
 pub size_sum : (s n : ℕ) → s < 2 ^ n → size_of s ≡ sum (bit s) n
@@ -71,7 +71,7 @@ pub weighed_meet : (w : ℕ → ℕ) (n s t : ℕ)
 weighed_meet w n s t h =
     let m = meet (λ i. bit s i * w i) (λ i. bit t i * w i) w n h in
     let b =
-    both (bit s m.0) (bit t m.0) (w m.0) (bit_at-lt s m.0) (bit_at-lt t m.0) m.2 in
+    both (bit s m.0) (bit t m.0) (w m.0) (bit_le s m.0) (bit_le t m.0) m.2 in
     (m.0, m.1, b.0, b.1)
   where
     both : (a b v : ℕ) → a < 2 → b < 2 → v < a * v + b * v → (a ≡ 1) × (b ≡ 1)
@@ -121,7 +121,7 @@ or_first : (s : ℕ) → bit_or s 1 ≡ s / 2 * 2 + 1
 or_first s =
     or_step s 1
     ∙ ap (λ (x : ℕ). x * 2 + max (s % 2) 1) (or_zero_r (s / 2))
-    ∙ omega (arith, bit_at-lt s 0)
+    ∙ omega (arith, bit_le s 0)
 
 or_next : (s h : ℕ) → bit_or s (2 ^ suc h) ≡ bit_or (s / 2) (2 ^ h) * 2 + s % 2
 or_next s h =
@@ -135,7 +135,7 @@ or_next s h =
 or_again : (s h : ℕ) → bit s h ≡ 1 → bit_or s (2 ^ h) ≡ s
 or_again s zero e = or_first s ∙ omega (arith, rw (div-one s) at e)
 or_again s (suc h) e =
-    let r = or_again (s / 2) h (sym (bit_at-suc s h) ∙ e) in
+    let r = or_again (s / 2) h (bit_next s h ∙ e) in
     or_next s h ∙ omega (arith, r)
 
 ones_pair : (q b : ℕ) → b < 2 → ones (q * 2 + b) ≡ ones q + b
@@ -147,7 +147,7 @@ or_new s zero e =
     ∙ ones_pair (s / 2) 1 (omega arith)
     ∙ omega (arith, rw (div-one s) at e, ones_step s)
 or_new s (suc h) e =
-    let r = or_new (s / 2) h (sym (bit_at-suc s h) ∙ e) in
+    let r = or_new (s / 2) h (bit_next s h ∙ e) in
     ap ones (or_next s h)
     ∙ ones_pair (bit_or (s / 2) (2 ^ h)) (s % 2) (omega arith)
     ∙ omega (arith, r, ones_step s)
@@ -164,7 +164,7 @@ with_new s h e = or_new s h e
 pub absent : (s h : ℕ) → is_in s h ≡ false → bit s h ≡ 0
 absent s h e =
     let n = eqb-false (bit s h) 1 e in
-    omega (arith, n, bit_at-lt s h)
+    omega (arith, n, bit_le s h)
 
 -- so whether a host is in the set is told by whether the set with it is another
 pub with_tells : (s h : ℕ) → eqb (with_host s h) s ≡ is_in s h
@@ -180,12 +180,10 @@ with_tells s h = go (is_in s h) refl
         omega (arith, larger, same))
 
 pub with_same : (s h : ℕ) → bit (with_host s h) h ≡ 1
-with_same s h = bit_at_or s (single_of h) h ∙ omega (arith, bit_at-pow_same h, bit_at-lt s h)
+with_same s h = bit_at_or s (single_of h) h ∙ omega (arith, single_same h, bit_le s h)
 
 pub with_other : (s h i : ℕ) → (h ≡ i → ⊥) → bit (with_host s h) i ≡ bit s i
-with_other s h i e =
-    let none = bit_at-pow_other h i (λ d. e (sym d)) in
-    bit_at_or s (single_of h) i ∙ omega (arith, none)
+with_other s h i e = bit_at_or s (single_of h) i ∙ omega (arith, single_other h i e)
 
 pub with_below : (n s h : ℕ) → s < 2 ^ n → h < n → with_host s h < 2 ^ n
 with_below n s h p q = or_lt n s (single_of h) p (pow-lt q)

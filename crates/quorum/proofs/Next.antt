@@ -8,6 +8,25 @@ use Rattle.quorum.specs.Sets.{is_in, members_from}
 use Rattle.quorum.specs.Parts.{next_from, next_in}
 use Rattle.quorum.proofs.Laws.{members_step}
 
+-- at a host that is in the set, at one that is not, and behind the last
+pub next_here : (set h n : ℕ) → h < n → is_in set h ≡ true → next_in set h n ≡ h
+unfolding next_from
+next_here set h n b e =
+    let k : n - h ≡ suc (n - (h + 1)) = omega arith in
+    rw (k, e)
+
+pub next_later : (set h n : ℕ) → h < n → is_in set h ≡ false
+    → next_in set h n ≡ next_in set (h + 1) n
+unfolding next_from
+next_later set h n b e =
+    let k : n - h ≡ suc (n - (h + 1)) = omega arith in
+    let g : h + 1 ≡ suc h = omega arith in
+    rw (k, e, g)
+
+pub next_end : (set h n : ℕ) → n ≤ h → next_in set h n ≡ h
+unfolding next_from
+next_end set h n b = let k : n - h ≡ 0 = omega arith in rw k
+
 -- what holds of the next one from h on: between are none of the set
 pub record Next (set h n r : ℕ) : Type 0 where
   pub least : h ≤ r
