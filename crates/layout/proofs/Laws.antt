@@ -142,6 +142,16 @@ no_holders_lem k e = rw e (go (eqb k prepare_response_lease) (eqb k propose_requ
     go false true = refl
     go false false = refl
 
+-- an owner that follows no accepted ballot stands behind the head
+pub owner_first : (k : ℕ) → eqb k prepare_response_lease ≡ false → head_length ≡ offset_of k owner
+unfolding more_of offset_in
+owner_first k e = rw e (go (eqb k propose_request) (eqb k learn))
+  where
+    go : (b c : Bool) → head_length ≡ offset_in (common ++ more_by false b c) owner
+    go true c = refl
+    go false true = refl
+    go false false = refl
+
 pub no_owner_lem : (k : ℕ) → eqb k prepare_response_lease ≡ false → eqb k propose_request ≡ false
     → eqb k learn ≡ false → kind_length k ≡ offset_of k owner
 unfolding kind_length more_of total offset_in
