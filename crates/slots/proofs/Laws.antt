@@ -1,17 +1,18 @@
 -- Laws of the messages under way: what holds of each of them stays so when a slot is freed or a
--- message placed, and the slots stay as many. Assumes nothing.
+-- message placed, the slots stay as many, and a filled one is left alone. Assumes nothing.
 use Rattle.std.specs.Prelude.{Option, Some, None}
-use mathlib.Core.Path.{◌≡◌, refl, ◌∙◌}
+use mathlib.Core.Path.{◌≡◌, refl, ap, ◌∙◌}
 use mathlib.Core.Bool.{Bool, true, false, cond}
 use mathlib.Core.List.{List, [], ◌∷◌}
 use Prim.Native.Nat.{ℕ, zero, suc, ◌≤◌, ◌<◌}
 use native.Mathlib.Omega.{arith}
 use lib.ListN.{length, get_or, set, length-set}
+use lib.Seq.{get_or-set_other}
 use borrow.Author.Tests.{eqb-true, eq-eqb}
 use Rattle.base.specs.Refusals.{done}
 use Rattle.base.specs.Lists.{All, every}
 use Rattle.base.proofs.Lists.{all_map, all_set, all_at, all_same}
-use Rattle.base.proofs.Tests.{both}
+use Rattle.base.proofs.Tests.{true_false, both, by_test}
 use Rattle.message.specs.declared.Sizes.{Sizes}
 use Rattle.message.specs.declared.Message.{Message}
 use Rattle.message.specs.Message.{numbers_of, addressed_to}
@@ -19,7 +20,7 @@ use Rattle.message.specs.Faults.{fault_of}
 use Rattle.slots.specs.declared.Slot.{Slot}
 use Rattle.slots.specs.Slots.{slot_count, empty_slot, slot_with, no_messages, is_empty, content_ok}
 use Rattle.slots.specs.Slots.{slot_ok, slots_ok, empties, lowest, placed, placed_each, freed}
-use Rattle.slots.specs.Claims.{Empty}
+use Rattle.slots.specs.Claims.{Empty, Filled}
 
 -- ---- as many slots
 
@@ -75,6 +76,37 @@ lowest_is (s ∷ ss) h = go (is_empty s.content) refl h (λ l. lowest_is ss l)
         × Empty (s ∷ ss) (cond b 0 (suc (lowest ss)))
     go true e l f = (omega arith, e)
     go false e l f = let p = f l in (omega (arith, p.0), p.1)
+
+-- ---- a slot that holds a message is left alone by placing, to any receivers, and by freeing
+-- another
+
+-- the lowest empty slot holds no message
+not_lowest : (ss : List Slot) (j : ℕ) → Filled ss j → j ≡ lowest ss → ⊥
+unfolding lowest is_empty
+not_lowest [] j f q = true_false f
+not_lowest (s ∷ ss) zero f q = let n : 0 ≡ suc (lowest ss) = rw f at q in absurd (omega arith)
+not_lowest (s ∷ ss) (suc j) f q =
+    by_test (λ (k : ℕ). suc j ≡ k → ⊥) (is_empty s.content) 0 (suc (lowest ss))
+    (λ _ e. omega (arith, e)) (λ _ e. not_lowest ss j f (omega (arith, e))) q
+
+placed_leaves : (ss : List Slot) (m : Message) (j : ℕ) → Filled ss j
+    → get_or (placed ss m) j empty_slot ≡ get_or ss j empty_slot
+unfolding placed
+placed_leaves ss m j f =
+    get_or-set_other ss (lowest ss) j (slot_with m) empty_slot (not_lowest ss j f)
+
+pub placed_each_leaves : (ss : List Slot) (m : Message) (hs : List ℕ) (j : ℕ) → Filled ss j
+    → get_or (placed_each ss m hs) j empty_slot ≡ get_or ss j empty_slot
+unfolding placed_each
+placed_each_leaves ss m [] j f = refl
+placed_each_leaves ss m (h ∷ hs) j f =
+    let e = placed_leaves ss (addressed_to m h) j f in
+    placed_each_leaves (placed ss (addressed_to m h)) m hs j
+    (ap (λ (s : Slot). is_empty s.content) e ∙ f) ∙ e
+
+pub freed_leaves : (ss : List Slot) (i j : ℕ) → (j ≡ i → ⊥)
+    → get_or (freed ss i) j empty_slot ≡ get_or ss j empty_slot
+freed_leaves ss i j d = get_or-set_other ss i j empty_slot empty_slot d
 
 -- ---- what holds of each message under way
 
