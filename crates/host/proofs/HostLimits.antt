@@ -6,8 +6,10 @@ use native.Mathlib.Omega.{arith}
 use borrow.Author.Tests.{leb-true, ltb-true, lt-ltb, le-leb}
 use Rattle.base.specs.Lists.{All}
 use Rattle.base.proofs.Lists.{all_of_in, out_all_of}
+use Rattle.message.specs.declared.Numbers.{Numbers}
 use Rattle.message.specs.declared.Message.{Message}
 use Rattle.message.specs.Message.{last_tick, numbers_of}
+use Rattle.message.specs.Faults.{fault_of}
 use Rattle.message.proofs.Laws.{fault_passed}
 use Rattle.state.specs.declared.Settings.{Settings}
 use Rattle.state.specs.declared.Asking.{Asking}
@@ -81,9 +83,19 @@ asks s h a e r =
     }
 
 -- in a message in which nothing is refused, hosts are below 16
+pub record Small (f : Numbers) : Type 0 where
+  pub sender : f.sender < 16
+  pub host : f.ballot.host < 16
+
+pub small : (s : Settings) (h : Host) → host_ok s h ≡ true → (f : Numbers)
+    → fault_of (sizes_of s) f ≡ 0 → Small f
+small s h e f q =
+    let few = few_hosts s h e in
+    let p = fault_passed (sizes_of s) f q in
+    record { sender = omega (arith, p.sender, few); host = omega (arith, p.ballot_host, few) }
+
 pub handed : (s : Settings) (h : Host) (m : Message) → Handed s h m
     → ((numbers_of m).sender < 16) × ((numbers_of m).ballot.host < 16) × Placed s h
 handed s h m i =
-    let o = placed s h i.host in
-    let p = fault_passed (sizes_of s) (numbers_of m) i.message in
-    (omega (arith, p.sender, o.few), omega (arith, p.ballot_host, o.few), o)
+    let p = small s h i.host (numbers_of m) i.message in
+    (p.sender, p.host, placed s h i.host)

@@ -9,7 +9,7 @@ use Prim.Native.Nat.{ℕ, ◌+◌, ◌≤◌}
 use native.Mathlib.Omega.{arith}
 use lib.Dec.{leb, eqb}
 use borrow.Author.Tests.{leb-true, eqb-true, eqb-false, not-true, eq-eqb}
-use Rattle.base.specs.Refusals.{done, refused_cell, refused_waiting, refused_duration}
+use Rattle.base.specs.Refusals.{done, first_of, refused_cell, refused_waiting, refused_duration}
 use Rattle.base.specs.Refusals.{refused_same_tick, refused_clock, refused_not_holder}
 use Rattle.base.proofs.Tests.{by_test, first_passed, unless_passed}
 use Rattle.quorum.specs.Sets.{is_in}
@@ -103,6 +103,11 @@ unfolding receive_refusal
 message_in s h m e =
     let p1 = unless_passed (host_ok s h) refused_cell _ refl e in
     (host_in s h p1.0, (first_passed (fault_of (sizes_of s) (numbers_of m)) _ p1.1).0)
+
+-- a host within its limits refuses no restart
+pub restart_passed : (s : Settings) (h : Host) → host_ok s h ≡ true → restart_refusal s h ≡ done
+unfolding restart_refusal first_of
+restart_passed s h e = rw e
 
 -- ---- a reply of a host that was counted changes nothing
 
