@@ -1,4 +1,5 @@
--- Numbers that are kept beside the hosts: one more of them. Assumes nothing.
+-- Numbers that are kept beside the hosts: one more of them, and one that is stored to with its
+-- host. Assumes nothing.
 use mathlib.Core.Path.{◌≡◌, ◌∙◌}
 use mathlib.Core.List.{List}
 use Prim.Native.Nat.{ℕ, ◌+◌, ◌≤◌, ◌<◌}
@@ -38,3 +39,16 @@ module _ {f : Host → ℕ} {hosts : List Host} {xs : List ℕ} where
   -- all that there are
   pub mirrors_all : (i : ℕ) → MirrorsTo i f hosts xs → 9 ≤ i → Mirrors f hosts xs
   mirrors_all i p l = record { many = p.many; each = λ k b. p.each k (omega (arith, b)) }
+
+  -- a host is stored to, and its number
+  pub mirrors_set : (i y : ℕ) (x : Host) → Mirrors f hosts xs → length hosts ≡ 9 → i < 9
+      → y ≡ f x → Mirrors f (set hosts i x) (set xs i y)
+  mirrors_set i y x p h l e =
+      record {
+        many = length-set xs i y ∙ p.many;
+        each =
+            stored_number xs (λ k. f (get_or (set hosts i x) k blank_host)) 9 i y
+            (omega (arith, p.many))
+            (rw (get_or-set_same hosts i x blank_host (omega (arith, h))) e)
+            (λ k b q. rw (get_or-set_other hosts i k x blank_host q) (p.each k b));
+      }

@@ -14,9 +14,10 @@ use Rattle.std.proofs.lemmas.List.FromFn.{get_or-map-range_with_len}
 use Rattle.state.specs.declared.Settings.{Settings}
 use Rattle.state.proofs.Blank.{blank_fits}
 use Rattle.host.specs.declared.Host.{Host}
-use Rattle.host.specs.Steps.{host_ok, restarted_host}
-use Rattle.host.proofs.HostLimits.{HostIn}
-use Rattle.host.proofs.Within.{fine_restart}
+use Rattle.host.specs.Steps.{host_ok, quiet_with, restarted_host, restart_of}
+use Rattle.host.proofs.HostLimits.{HostIn, out_host}
+use Rattle.host.proofs.Refusals.{restart_passed}
+use Rattle.host.proofs.Within.{fine_restart, lawful_restart}
 use Rattle.places.specs.Places.{blank_host, unwaited, new_host, new_hosts}
 use Rattle.places.specs.Parts.{Opens}
 
@@ -29,6 +30,13 @@ unwaited_in s clock i o b =
       wait = omega arith;
       state = blank_fits s i;
     }
+
+pub unwaited_restarts : (s : Settings) (clock i : ℕ) → Opens s clock → i < s.n
+    → restart_of s (unwaited clock i) ≡ quiet_with (restarted_host s (unwaited clock i))
+unwaited_restarts s clock i o b =
+    (lawful_restart s (unwaited clock i)).carried_out
+    (restart_passed s (unwaited clock i)
+    (out_host s (unwaited clock i) (unwaited_in s clock i o b)))
 
 -- 'every host waits as after a restart'
 pub new_fits : (s : Settings) (clock i : ℕ) → Opens s clock → i < s.n

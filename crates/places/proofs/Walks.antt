@@ -22,6 +22,24 @@ pub record Span (top : ℕ) (clock : ℕ → ℕ) (i low high : ℕ) : Type 0 wh
   pub least : (b : ℕ) → (i ≡ 0 → b ≤ top) → ((k : ℕ) → k < i → b ≤ clock k) → b ≤ low
   pub most : (b : ℕ) → ((k : ℕ) → k < i → clock k ≤ b) → high ≤ b
 
+pub span_none : (top : ℕ) (clock : ℕ → ℕ) → Span top clock 0 top 0
+span_none top clock =
+    record {
+      from = λ k b. absurd (omega (arith, b));
+      to = λ k b. absurd (omega (arith, b));
+      least = λ b t _. t refl;
+      most = λ b _. omega arith;
+    }
+
+pub span_first : (top : ℕ) (clock : ℕ → ℕ) → Span top clock 1 (clock 0) (clock 0)
+span_first top clock =
+    record {
+      from = λ k b. let e : k ≡ 0 = omega arith in rw e (omega arith);
+      to = λ k b. let e : k ≡ 0 = omega arith in rw e (omega arith);
+      least = λ b _ f. f 0 (omega arith);
+      most = λ b f. f 0 (omega arith);
+    }
+
 pub span_next : (top : ℕ) (clock : ℕ → ℕ) (i low high : ℕ) → (i ≡ 0 → clock i ≤ top)
     → Span top clock i low high
     → Span top clock (i + 1) (min low (clock i)) (max high (clock i))
