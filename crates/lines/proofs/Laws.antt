@@ -20,24 +20,21 @@ use Rattle.lines.specs.Parts.{digit_of, name_byte, bytes_text}
 
 -- ---- how long numbers are
 
-most : (k b n : ℕ) → 0 < k → b ≤ 10 ^ k → b ≤ 2 ^ 64 → n < b → length (decimal n) ≤ k
-most k b n some p q h = decimal_most k n some (lt_of_lt_of_le h p) (lt_of_lt_of_le h q)
-
 -- bytes, an event's kind, its place, and longer numbers
 pub most_8 : (n : ℕ) → n < 2 ^ 8 → length (decimal n) ≤ 3
-most_8 n h = most 3 (2 ^ 8) n (lit≤ tt) (lit≤ tt) (lit≤ tt) h
+most_8 n h = decimal_most 2 n (lt_of_lt_of_le h (lit≤ tt))
 
 pub most_kind : (n : ℕ) → n < 1000 → length (decimal n) ≤ 3
-most_kind n h = most 3 1000 n (lit≤ tt) (lit≤ tt) (lit≤ tt) h
+most_kind n h = decimal_most 2 n (lt_of_lt_of_le h (lit≤ tt))
 
 pub most_place : (n : ℕ) → n < 100000 → length (decimal n) ≤ 5
-most_place n h = most 5 100000 n (lit≤ tt) (lit≤ tt) (lit≤ tt) h
+most_place n h = decimal_most 4 n (lt_of_lt_of_le h (lit≤ tt))
 
 pub most_32 : (n : ℕ) → n < 2 ^ 32 → length (decimal n) ≤ 10
-most_32 n h = most 10 (2 ^ 32) n (lit≤ tt) (lit≤ tt) (lit≤ tt) h
+most_32 n h = decimal_most 9 n (lt_of_lt_of_le h (lit≤ tt))
 
 pub most_64 : (n : ℕ) → n < 2 ^ 64 → length (decimal n) ≤ 20
-most_64 n h = most 20 (2 ^ 64) n (lit≤ tt) (lit≤ tt) (lit≤ tt) h
+most_64 n h = decimal_most 19 n (lt_of_lt_of_le h (lit≤ tt))
 
 -- between a space and the line's end
 pub last_length : (n : ℕ) → length (last_of n) ≡ length (decimal n) + 2
@@ -75,6 +72,21 @@ text_then (l ∷ ls) ms =
     ∙ sym (append_assoc (line_text l) (text_of ls) (text_of ms))
 
 -- ---- names as bytes that are lent
+
+-- whom host i names, and whom those after it name
+pub bytes_step : (names : List ℕ) (n i : ℕ) → i < n
+    → bytes_text names (n - i) i
+    ≡ (32 ∷ get_or names i 0 ∷ []) ++ bytes_text names (n - (i + 1)) (i + 1)
+unfolding bytes_text
+bytes_step names n i h =
+    let e : n - i ≡ suc (n - (i + 1)) = omega arith in
+    rw (e, add-one i)
+
+pub bytes_end : (names : List ℕ) (n i : ℕ) → n ≤ i → bytes_text names (n - i) i ≡ []
+unfolding bytes_text
+bytes_end names n i h =
+    let e : n - i ≡ 0 = omega arith in
+    rw e
 
 -- one name more
 pub bytes_next : (names : List ℕ) (k i j : ℕ) → j ≡ i + k

@@ -5,13 +5,13 @@ use mathlib.Core.List.{List, [], ◌∷◌, ◌++◌, append_assoc}
 use Prim.Native.Nat.{ℕ, zero, suc, ◌+◌, ◌*◌, ◌/◌, ◌%◌, ◌^◌, ◌≤◌, ◌<◌}
 use native.Mathlib.Omega.{arith}
 use lib.Dec.{ltb, lit≤}
-use lib.ListN.{length, length-append, take, drop, take-append-drop}
+use lib.ListN.{length, length-append, take, drop, set, take-append-drop}
 use lib.Pow.{pow-add}
 use lib.Seq.{sets, sets-eq, length-sets}
 use borrow.Rule.Slice.PartMut.{put_mid}
 use borrow.Author.Tests.{lt-ltb, le-ltb, ltb-false}
 use Rattle.std.specs.Fmt as Fmt
-use Rattle.std.proofs.lemmas.Fmt.{decimal_by_steps, length-decimal-le}
+use Rattle.std.proofs.lemmas.Fmt.{decimal_by_steps}
 use Rattle.std.proofs.lemmas.List.Edits.{paste_all}
 use Rattle.std.proofs.lemmas.Slice.{put_mid-paste}
 use Rattle.base.proofs.Stores.{sets_append, sets_front}
@@ -52,20 +52,78 @@ unfolding decimal digits_of
 decimal_more n h =
     rw (le-ltb n 10 h, digits_same n (suc (n / 10)) (n / 10) (omega arith) (omega arith))
 
+-- two digits, three, and the last three behind the others
+pub decimal_two : (n : ℕ) → 10 ≤ n → n < 100
+    → decimal n ≡ (48 + n / 10 % 10) ∷ (48 + n % 10) ∷ []
+decimal_two n h l =
+    let e : 48 + n / 10 ≡ 48 + n / 10 % 10 = omega arith in
+    decimal_more n h
+    ∙ ap (λ (ds : List ℕ). ds ++ ((48 + n % 10) ∷ [])) (decimal_one (n / 10) (omega arith))
+    ∙ ap (λ (x : ℕ). x ∷ (48 + n % 10) ∷ []) e
+
+pub decimal_three : (n : ℕ) → 100 ≤ n → n < 1000
+    → decimal n ≡ (48 + n / 100 % 10) ∷ (48 + n / 10 % 10) ∷ (48 + n % 10) ∷ []
+decimal_three n h l =
+    let e : n / 10 / 10 % 10 ≡ n / 100 % 10 = omega arith in
+    decimal_more n (omega arith)
+    ∙ ap (λ (ds : List ℕ). ds ++ ((48 + n % 10) ∷ []))
+    (decimal_two (n / 10) (omega arith) (omega arith))
+    ∙ ap (λ (x : ℕ). (48 + x) ∷ (48 + n / 10 % 10) ∷ (48 + n % 10) ∷ []) e
+
+pub decimal_thousand : (n : ℕ) → 1000 ≤ n
+    → decimal n
+    ≡ decimal (n / 1000) ++ ((48 + n / 100 % 10) ∷ (48 + n / 10 % 10) ∷ (48 + n % 10) ∷ [])
+decimal_thousand n h =
+    let hundreds : n / 10 / 10 ≡ n / 100 = omega arith in
+    let thousands : n / 100 / 10 ≡ n / 1000 = omega arith in
+    let ds = decimal (n / 1000) in
+    decimal_more n (omega arith)
+    ∙ ap (λ (xs : List ℕ). xs ++ ((48 + n % 10) ∷ [])) (decimal_more (n / 10) (omega arith))
+    ∙ ap (λ (k : ℕ). (decimal k ++ ((48 + n / 10 % 10) ∷ [])) ++ ((48 + n % 10) ∷ [])) hundreds
+    ∙ ap (λ (xs : List ℕ). (xs ++ ((48 + n / 10 % 10) ∷ [])) ++ ((48 + n % 10) ∷ []))
+    (decimal_more (n / 100) (omega arith))
+    ∙ ap (λ (k : ℕ).
+    ((decimal k ++ ((48 + n / 100 % 10) ∷ [])) ++ ((48 + n / 10 % 10) ∷ []))
+    ++ ((48 + n % 10) ∷ [])) thousands
+    ∙ append_assoc (ds ++ ((48 + n / 100 % 10) ∷ [])) ((48 + n / 10 % 10) ∷ [])
+    ((48 + n % 10) ∷ [])
+    ∙ append_assoc ds ((48 + n / 100 % 10) ∷ []) ((48 + n / 10 % 10) ∷ (48 + n % 10) ∷ [])
+
 -- what the library writes for a number of 64 bits
 pub decimal_std : (n : ℕ) → n < 2 ^ 64 → decimal n ≡ Fmt.decimal n
 decimal_std =
     decimal_by_steps (λ n ds. decimal n ≡ ds) decimal_one
     (λ n ds h e. decimal_more n h ∙ ap (λ (l : List ℕ). l ++ ((48 + n % 10) ∷ [])) e)
 
--- a number below 10 ^ k has at most k digits
-pub decimal_most : (k n : ℕ) → 0 < k → n < 10 ^ k → n < 2 ^ 64 → length (decimal n) ≤ k
-decimal_most k n p h f = rw (decimal_std n f) (length-decimal-le k n p h f)
-
 pow_ten : (j : ℕ) → 10 ^ suc j ≡ 10 * 10 ^ j
 pow_ten j =
     let e : suc j ≡ 1 + j = omega arith in
     ap (λ (k : ℕ). 10 ^ k) e ∙ pow-add 10 1 j
+
+digits_most : (j k n : ℕ) → n < 10 ^ suc j → length (digits_of k n) ≤ suc j
+unfolding digits_of
+digits_most j zero n h = omega arith
+digits_most zero (suc k) n h = rw (lt-ltb n 10 (omega arith)) (lit≤ tt)
+digits_most (suc j) (suc k) n h =
+    let p : n < 10 * 10 ^ suc j = rw (pow_ten (suc j)) at h in
+    go (ltb n 10) (digits_most j k (n / 10) (omega arith))
+  where
+    go : (b : Bool) → length (digits_of k (n / 10)) ≤ suc j
+        → length (behind (digits_of k (n / 10)) n b) ≤ suc (suc j)
+    go true f = omega arith
+    go false f = simp length-append (omega arith)
+
+-- a number below 10 ^ (j + 1) has at most j + 1 digits
+pub decimal_most : (j n : ℕ) → n < 10 ^ suc j → length (decimal n) ≤ suc j
+unfolding decimal
+decimal_most j n h = digits_most j (suc n) n h
+
+pub length_one : (n : ℕ) → n < 10 → length (decimal n) ≡ 1
+length_one n h = ap length (decimal_one n h)
+
+pub length_more : (n : ℕ) → 10 ≤ n → length (decimal n) ≡ length (decimal (n / 10)) + 1
+length_more n h =
+    ap length (decimal_more n h) ∙ length-append (decimal (n / 10)) ((48 + n % 10) ∷ [])
 
 ten_some : (j : ℕ) → 0 < 10 ^ j
 ten_some zero = lit≤ tt
@@ -94,6 +152,10 @@ decimal_count k n l m f =
     rw (decimal_std n f) (decimal_by_steps Counted counted_one counted_more n f k l m)
 
 -- ---- text put at an offset
+
+-- one byte
+pub put_one : (o : List ℕ) (at b : ℕ) → at + 1 ≤ length o → Put o at (b ∷ []) (at + 1) (set o at b)
+put_one o at b h = record { past = refl; stored = refl; within = h }
 
 -- bytes in the place of as many from an offset on
 pub put_over : (o o₁ bytes : List ℕ) (at : ℕ) → at + length bytes ≤ length o
@@ -143,6 +205,17 @@ put_then {o} {o₁} {o₂} {a} {b} {at} p q = record {
   stored = q.stored ∙ (rw (p.stored, p.past) (sets_append o at a b));
   within = omega (arith, length-append a b, p.past, q.within, put_length p);
 }
+
+-- the digits but the last leave room for it
+pub last_room : {o o₁ : List ℕ} {at r : ℕ} (n : ℕ) → 10 ≤ n → Put o at (decimal (n / 10)) r o₁
+    → at + length (decimal n) ≤ length o → r + 1 ≤ length o₁
+last_room n h p w = omega (arith, length_more n h, p.past, put_length p)
+
+-- the last digit, put behind the others
+pub put_last_digit : {o o₁ : List ℕ} {at r : ℕ} (n : ℕ) → 10 ≤ n → Put o at (decimal (n / 10)) r o₁
+    → at + length (decimal n) ≤ length o → Put o at (decimal n) (r + 1) (set o₁ r (48 + n % 10))
+put_last_digit {o} {o₁} {at} {r} n h p w =
+    rw (decimal_more n h) (put_then p (put_one o₁ r (48 + n % 10) (last_room n h p w)))
 
 -- on a page
 pub wrote : {p q : Page} {a : List ℕ} → Put p.out.now p.at a q.at q.out.now
