@@ -28,16 +28,19 @@ use Rattle.places.specs.Places.{blank_host, each_host}
 use Rattle.places.proofs.Each.{each_above, each_next}
 use Rattle.cell.specs.declared.Cell.{Cell}
 use Rattle.cell.specs.declared.Event.{Event}
-use Rattle.cell.specs.declared.Event.TheVariants.{AdvanceAll, AdvanceOne}
+use Rattle.cell.specs.declared.Event.TheVariants.{AdvanceAll, AdvanceOne, Start, Deliver, Lose}
+use Rattle.cell.specs.declared.Event.TheVariants.{Repeat, Restart, Release}
 use Rattle.cell.specs.CellLimits.{host_at, with_host_at, clocks_near, cell_ok}
 use Rattle.cell.specs.Claims.{Sound}
 use Rattle.cell.specs.Events.{answered_with, answer_with, count_with, hosts_refusal}
 use Rattle.cell.specs.Events.{advance_all_refusal, advanced_all, advanced_one}
-use Rattle.cell.specs.Events.{advance_one_refusal, refusal_of, after_of, placing_of, looked_of}
-use Rattle.cell.specs.Events.{event_of}
+use Rattle.cell.specs.Events.{advance_one_refusal, start_at_refusal, deliver_refusal, lose_refusal}
+use Rattle.cell.specs.Events.{repeat_refusal, restart_at_refusal, release_at_refusal}
+use Rattle.cell.specs.Events.{refusal_of, after_of, placing_of, looked_of, event_of}
 use Rattle.cell.proofs.Hosts.{all_passed, by_advances, out_near, near_in, host_same}
 use Rattle.cell.proofs.Hosts.{host_other, sized_host}
 use Rattle.cell.proofs.CellLimits.{cell_in, n_of}
+use Rattle.cell.proofs.Looked.{NotFull, none_full, then_full}
 use Rattle.acts.specs.Parts.{may_advance, is_near}
 
 -- ---- an event by its refusal
@@ -58,6 +61,25 @@ pub event_refused : (c : Cell) (e : Event) (a : ℕ) → refusal_of c e ≡ a �
     → (a ≡ refused_full → ⊥) → answered_with a 0 c ≡ event_of c e
 event_refused c e a q n f =
     rw (ne_eqb a done n, ne_eqb a refused_full f) at (event_is c e a q)
+
+-- a cell past its limits: 1, whatever the event
+past_refusal : (c : Cell) (e : Event) → cell_ok c ≡ false → refusal_of c e ≡ refused_cell
+unfolding refusal_of advance_all_refusal advance_one_refusal start_at_refusal deliver_refusal
+    lose_refusal repeat_refusal restart_at_refusal release_at_refusal first_of
+past_refusal c (AdvanceAll d) o = rw o
+past_refusal c (AdvanceOne h d) o = rw o
+past_refusal c (Start h d) o = rw o
+past_refusal c (Deliver i) o = rw o
+past_refusal c (Lose i) o = rw o
+past_refusal c (Repeat i) o = rw o
+past_refusal c (Restart h) o = rw o
+past_refusal c (Release h) o = rw o
+
+pub past_limits : (c : Cell) (e : Event) → cell_ok c ≡ false
+    → answered_with refused_cell 0 c ≡ event_of c e
+past_limits c e o =
+    event_refused c e refused_cell (past_refusal c e o) (λ q. absurd (omega (arith, q)))
+    (λ q. absurd (omega (arith, q)))
 
 -- an event that places nothing is refused by any number
 pub event_unplaced : (c : Cell) (e : Event) (a : ℕ) → refusal_of c e ≡ a → (a ≡ done → ⊥)
@@ -306,6 +328,23 @@ module _ (c : Cell) (g : Sound c) where
         ap (λ (x : Bool). first_of (unless x refused_spread ∷ []))
         (near_is h d b
         (within (unless_passed one_may refused_clock [] refl (first_only _ ∙ q)).0 b)))
+
+  -- 13 refuses no advance
+  pub all_not_full : (d : ℕ) → NotFull (advance_all_refusal c d)
+  all_not_full d = rw (all_is d) (go (all_may d))
+    where
+      go : (b : Bool) → NotFull (unless b refused_clock)
+      go true = λ e. absurd (omega (arith, e))
+      go false = λ e. absurd (omega (arith, e))
+
+  pub one_not_full : (h d : ℕ) → NotFull (advance_one_refusal c h d)
+  one_not_full h d = go (dec_lt h n)
+    where
+      go : Dec (h < n) → NotFull (advance_one_refusal c h d)
+      go (yes b) =
+          rw (one_is h d b)
+          (then_full _ refused_clock _ refl (then_full _ refused_spread [] refl none_full))
+      go (no b) = rw (one_past h d (omega arith)) (λ e. absurd (omega (arith, e)))
 
   -- ---- what the code's tests give
 
