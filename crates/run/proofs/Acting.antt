@@ -36,7 +36,7 @@ use Rattle.host.specs.Claims.{Lawful}
 use Rattle.host.specs.Steps.{start_refusal, start_of, release_refusal, release_of, restart_refusal}
 use Rattle.host.specs.Steps.{on_delivery, restart_of, restarted_host, quiet_with}
 use Rattle.host.proofs.Outcomes.{gets}
-use Rattle.host.proofs.Within.{fine_step, lawful_restart, lawful_start, lawful_release}
+use Rattle.host.proofs.Within.{Fine, fine_step, lawful_restart, lawful_start, lawful_release}
 use Rattle.slots.specs.declared.Slot.{Slot}
 use Rattle.slots.specs.Slots.{slot_count, empty_slot, slot_with, is_empty, empties, full_refusal}
 use Rattle.slots.specs.Slots.{looked_for, freed, placed, placed_each, slot_refusal}
@@ -52,7 +52,8 @@ use Rattle.cell.specs.Events.{answered_with, cell_of, with_slots, messages_in, s
 use Rattle.cell.specs.Events.{step_looked, sent_to, stepped, step_at_refusal, refusal_of, after_of}
 use Rattle.cell.specs.Events.{placing_of, event_of, start_step, release_step, start_at_refusal}
 use Rattle.cell.specs.Events.{release_at_refusal, restart_at_refusal}
-use Rattle.cell.specs.Events.{deliver_refusal, deliver_full, deliver_looked, delivered}
+use Rattle.cell.specs.Events.{deliver_step, deliver_refusal, deliver_full, deliver_looked}
+use Rattle.cell.specs.Events.{delivered}
 use Rattle.cell.specs.Events.{advance_all_refusal, advance_one_refusal, lose_refusal}
 use Rattle.cell.specs.Events.{repeat_refusal, repeated}
 use Rattle.cell.proofs.CellLimits.{cell_in, host_of_lem, n_of, message_of_lem}
@@ -60,6 +61,7 @@ use Rattle.cell.proofs.Looked.{NotFull, Counted, counted_writes, start_not_full}
 use Rattle.cell.proofs.Looked.{release_not_full, restart_not_full}
 use Rattle.cell.proofs.StaysWithin.{kept_event}
 use Rattle.cell.proofs.Looked.{refused_looks, full_looks}
+use Rattle.acts.proofs.Advances as A
 use Rattle.acts.proofs.Advances.{event_is, event_refused, not_done}
 use Rattle.placing.specs.declared.Fill.{Fill}
 use Rattle.placing.specs.declared.Placed.{Placed}
@@ -96,6 +98,11 @@ pub filled_frees : {ss : List Slot} {free : List Bool} (i : ℕ) (m : Message) �
     → i < slot_count → Frees (set ss i (slot_with m)) (set free i false)
 unfolding is_empty
 filled_frees i m p b = frees_set i false (slot_with m) p b refl
+
+-- what is sent, stored into the slots that were found for it
+unfoldable pub stored_in : Option Message → ℕ → List Fill → List Slot → List Slot
+stored_in None k fills ss = ss
+stored_in (Some m) k fills ss = stored k fills m ss
 
 -- the slots that were found are the first of nine
 stored_front : (j k : ℕ) (fills : List Fill) (m : Message) (ss : List Slot) → j ≤ k
@@ -418,6 +425,15 @@ filled_slot ss i m long e = go (dec_lt i slot_count)
         no_some : {m : Message} → ◌≡◌ {A = Option Message} None (Some m) → ⊥
         no_some e = cc
 
+-- in a cell within its limits the host refuses no message under way: it stays within its limits,
+-- and writing refuses nothing in its reply
+pub replied : (c : Cell) (i : ℕ) (m : Message) → cell_ok c ≡ true → content_at c i ≡ Some m
+    → Fine c.settings (deliver_step c m)
+replied c i m o t =
+    let sendable = message_of_lem c i m o t in
+    fine_step c.settings (host_at c (target_of m)) (gets m)
+    (host_of_lem c (target_of m) o (target_in_lem (sizes_of c.settings) m sendable)) sendable
+
 module _ (x : Running) (g : Fresh x) (i : ℕ) where
   abbrev d : Cell
   d = x.cell
@@ -510,10 +526,7 @@ module _ (x : Running) (g : Fresh x) (i : ℕ) where
     unfolding freed_in refusal_of deliver_refusal deliver_full placing_of deliver_looked after_of
         delivered stepped stepped_of
     delivers s r y q w =
-        let h = host_at d (target_of m) in
-        let fine =
-        fine_step d.settings h (gets m)
-        (host_of_lem d (target_of m) g.ready.sound.1 target_low) sendable in
+        let fine = replied d i m g.ready.sound.1 t in
         let u = done_with s.host s.sent in
         let writable = rw (← q) at fine.writable in
         let many =
@@ -566,24 +579,10 @@ advances x g e r d s q =
 -- ---- an event by itself
 
 -- a cell past its limits: 1, whatever the event
-past_refusal : (c : Cell) (e : Event) → cell_ok c ≡ false → refusal_of c e ≡ refused_cell
-unfolding refusal_of advance_all_refusal advance_one_refusal start_at_refusal deliver_refusal
-    lose_refusal repeat_refusal restart_at_refusal release_at_refusal first_of
-past_refusal c (AdvanceAll d) o = rw o
-past_refusal c (AdvanceOne h d) o = rw o
-past_refusal c (Start h d) o = rw o
-past_refusal c (Deliver i) o = rw o
-past_refusal c (Lose i) o = rw o
-past_refusal c (Repeat i) o = rw o
-past_refusal c (Restart h) o = rw o
-past_refusal c (Release h) o = rw o
-
 pub past_limits : (c : Cell) (e : Event) → cell_ok c ≡ false
     → told_answer (record { answer = Result.Err Refusal.Cell; cell = c }) ≡ event_of c e
 unfolding told_answer answer_of looked_in refusal_number
-past_limits c e o =
-    event_refused c e refused_cell (past_refusal c e o) (λ q. absurd (omega (arith, q)))
-    (λ q. absurd (omega (arith, q)))
+past_limits c e o = A.past_limits c e o
 
 -- what it is answered, with how many slots were looked at
 pub answers_event : (c : Cell) (e : Event) (z : Sized c) (r : Result Unit Refusal)

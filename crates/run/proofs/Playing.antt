@@ -10,6 +10,9 @@ use lib.ListN.{length}
 use Rattle.base.specs.Refusals.{done}
 use Rattle.text.specs.Parts.{Put}
 use Rattle.text.proofs.Laws.{Todo, todo_begin, todo_step, todo_end, put_length}
+use Rattle.state.specs.declared.Settings.{Settings}
+use Rattle.host.specs.declared.Host.{Host}
+use Rattle.slots.specs.declared.Slot.{Slot}
 use Rattle.cell.specs.declared.Cell.{Cell}
 use Rattle.cell.specs.declared.Event.{Event}
 use Rattle.cell.specs.Answered.{Answered}
@@ -23,7 +26,7 @@ use Rattle.record.specs.Record.{kind_of, record_at}
 use Rattle.record.proofs.Laws.{record_next}
 use Rattle.lines.specs.Lines.{event, counts, line_text, text_of}
 use Rattle.listing.specs.declared.Walk.{Walk}
-use Rattle.listing.specs.Listing.{settings_length, longest_run, events_of, names_of}
+use Rattle.listing.specs.Listing.{script_from, settings_length, longest_run, events_of, names_of}
 use Rattle.listing.specs.Listing.{event_lines}
 use Rattle.listing.specs.Listing.{stop_lines, zeros, others}
 use Rattle.listing.specs.Parts.{walk_from, walked_to, last_lines}
@@ -31,6 +34,10 @@ use Rattle.listing.proofs.Counting.{done_most, done_zero, done_other, done_both}
 use Rattle.listing.proofs.Records.{script_next}
 use Rattle.run.specs.Parts.{script_after, events_after, answered_after, ahead}
 use Rattle.run.specs.Parts.{Plays}
+
+-- a cell of these parts
+abbrev pub cell_with : Settings → List Host → List Slot → Cell
+cell_with s hosts slots = record { settings = s; hosts = hosts; slots = slots }
 
 -- the record at an offset is five bytes nearer to the end
 pub ahead_next : (run : List ℕ) (next : ℕ) (r : Record) → record_at run next ≡ r
@@ -202,3 +209,14 @@ going_end {run = run} {r = r} {w = w} g t l =
       written = todo_end g.todo (rw none) (omega (arith, l, g.near, g.same));
       near = omega (arith, g.near);
     }
+
+-- a run of one event
+pub one_event : (c : Cell) (e : Event)
+    → answered_after (answered_with done 0 c) (events_after [] settings_length (Record.Event e 0))
+    ≡ event_of c e
+unfolding answered_after events_of script_from
+one_event c e = refl
+
+pub one_ahead : (e : Event) → ahead [] (Record.Event e 0) ≡ 5
+unfolding ahead
+one_ahead e = refl
