@@ -1,22 +1,24 @@
 -- Laws of the records: their lengths, what one that is not refused tells, that it is read alike in
--- a longer file and in a shorter one, and what is tested of one, in its order. Assumes nothing.
+-- a longer file and in a shorter one, what is tested of one, in its order, and of a T that opening
+-- refuses. Assumes nothing.
 use mathlib.Core.Path.{◌≡◌, refl, sym, ap, ◌∙◌}
-use mathlib.Core.Bool.{Bool, true, false, cond, ◌&&◌}
+use mathlib.Core.Bool.{Bool, true, false, cond, ◌&&◌, ◌||◌}
 use mathlib.Core.List.{List, [], ◌∷◌, ◌++◌}
 use Prim.Native.Nat.{ℕ, ◌+◌, ◌^◌, ◌≤◌, ◌<◌}
 use native.Mathlib.Nat.{min-le_left, le-min}
 use native.Mathlib.Omega.{arith}
-use lib.ListN.{length, take, drop, length-append, length-take, take-append-drop}
+use lib.ListN.{length, get_or, take, drop, length-append, length-take, take-append-drop}
 use lib.Dec.{lit<, lit≤, ltb, leb, eqb}
-use borrow.Author.Tests.{leb-true, eqb-true, lt-ltb, le-ltb, le-leb, ne_eqb}
+use borrow.Author.Tests.{ltb-true, ltb-false, leb-true, eqb-true, lt-ltb, le-ltb, le-leb}
+use borrow.Author.Tests.{lt-leb, ne_eqb}
 use borrow.Author.Rules.{rules}
 use Rattle.base.specs.declared.Refusal.{Refusal}
 use Rattle.base.specs.Answers.{refusal_number}
 use Rattle.base.specs.Refusals.{done, refused_cut, refused_kind, refused_length, refused_short}
 use Rattle.base.specs.Refusals.{first_of, answer_by, tests_in, fails_at}
 use Rattle.base.specs.Lists.{all_of}
-use Rattle.base.proofs.Tests.{by_test, unless_passed}
-use Rattle.wire.specs.Wire.{total}
+use Rattle.base.proofs.Tests.{true_false, by_test, unless_passed}
+use Rattle.wire.specs.Wire.{number_at, total, numbers_at}
 use Rattle.wire.proofs.Laws.{number_within, numbers_within}
 use Rattle.quorum.specs.Sets.{cell_fits}
 use Rattle.message.specs.Message.{last_tick}
@@ -64,6 +66,20 @@ pub length_most : (k : ℕ) → record_length k ≤ 21
 unfolding total
 length_most k =
     by_form (λ ws. fore_length + total ws ≤ 21) k (lit≤ tt) (lit≤ tt) (lit≤ tt) (lit≤ tt)
+
+-- in every record but an advance of all the first field is one byte
+pub first_value : (s : List ℕ) (at k : ℕ) → eqb k advance_all_kind ≡ false
+    → get_or (values_at s at k) 0 0 ≡ number_at s (at + fore_length) 1
+unfolding numbers_at
+first_value s at k n =
+    let P : List ℕ → Type 0 =
+    λ ws. get_or (numbers_at s (at + fore_length) ws) 0 0 ≡ number_at s (at + fore_length) 1 in
+    by_test P (eqb k settings_kind) _ _ (λ _. refl)
+    (λ _. rw n (by_test P (leb k start_kind) _ _ (λ _. refl) (λ _. refl)))
+
+-- ticks stand after a host
+pub after_host : (at : ℕ) → at + fore_length + 1 ≡ at + 5
+after_host at = omega arith
 
 -- ---- a record that is not refused
 
@@ -343,3 +359,29 @@ pub opening_steps : (g : Settings) (clock : ℕ)
     (cond (ltb g.spread g.longest) (cond (leb clock (2 ^ 48)) 0 13) 9) 5) 4
 unfolding opening_offset tests_in fails_at total last_longest last_tick
 opening_steps g clock = grind (arith, rules)
+
+-- ---- settings that opening refuses
+
+-- T is below 1 or above its limit, or it is neither
+pub longest_refused : (t x y : ℕ) → (ltb t 1 || ltb last_longest t) ≡ true
+    → cond (leb 1 t) (cond (leb t last_longest) x y) y ≡ y
+longest_refused t x y e = go (ltb t 1) refl e
+  where
+    go : (b : Bool) → ltb t 1 ≡ b → (b || ltb last_longest t) ≡ true
+        → cond (leb 1 t) (cond (leb t last_longest) x y) y ≡ y
+    go true p q = rw (lt-leb 1 t (ltb-true t 1 p))
+    go false p q =
+        rw (
+          le-leb 1 t (ltb-false t 1 p),
+          lt-leb t last_longest (ltb-true last_longest t q),
+        )
+
+pub longest_fits : (t : ℕ) → (ltb t 1 || ltb last_longest t) ≡ false
+    → (leb 1 t ≡ true) × (leb t last_longest ≡ true)
+longest_fits t e = go (ltb t 1) refl e
+  where
+    go : (b : Bool) → ltb t 1 ≡ b → (b || ltb last_longest t) ≡ false
+        → (leb 1 t ≡ true) × (leb t last_longest ≡ true)
+    go true p q = true_false q
+    go false p q =
+        (le-leb 1 t (ltb-false t 1 p), le-leb t last_longest (ltb-false last_longest t q))
