@@ -1,7 +1,7 @@
 -- The walk over free slots is the walk that places over every list of slots that are free so.
 -- Assumes nothing.
 use mathlib.Core.Path.{◌≡◌, refl, sym, ap, ◌∙◌}
-use mathlib.Core.Bool.{Bool, true, false, not}
+use mathlib.Core.Bool.{Bool, true, false, ◌&&◌, not}
 use mathlib.Core.Logic.{⊎_elim}
 use mathlib.Core.List.{List, ◌∷◌}
 use Prim.Native.Nat.{ℕ, zero, suc, ◌+◌, ◌-◌, ◌≤◌, ◌<◌}
@@ -10,7 +10,7 @@ use native.Mathlib.Omega.{arith}
 use lib.Dec.{leb}
 use lib.ListN.{length, get_or, set, length-set}
 use lib.Seq.{get_or-set_same, get_or-set_other}
-use borrow.Author.Tests.{leb-true, not-true}
+use borrow.Author.Tests.{le-leb, leb-true, not-true}
 use Rattle.std.specs.Prelude.{Option, Some, None}
 use Rattle.std.specs.Option.{unwrap_or}
 use Rattle.std.specs.declared.result.Result.{Result}
@@ -18,7 +18,7 @@ use Rattle.base.specs.declared.Refusal.{Refusal}
 use Rattle.base.proofs.Tests.{both}
 use Rattle.quorum.specs.Sets.{is_in, members_from, members}
 use Rattle.quorum.specs.Parts.{next_in}
-use Rattle.quorum.proofs.Laws.{members_step}
+use Rattle.quorum.proofs.Laws.{members_step, members_none}
 use Rattle.quorum.proofs.Next.{next_is}
 use Rattle.message.specs.declared.Message.{Message}
 use Rattle.message.specs.Message.{addressed_to}
@@ -111,6 +111,19 @@ unfolding eight_taken
 passed_eight {free = free} {j = j} p e =
     let t = both (leb (j + 8) slot_count) (taken_from 8 free j) e in
     passed_more 8 p (leb-true (j + 8) slot_count t.0) t.1
+
+-- the tests of eight slots
+abbrev Taken : List Bool → ℕ → Bool
+Taken free x = not (get_or free x false)
+
+pub eight_is : (free : List Bool) (j : ℕ) → j + 8 ≤ slot_count
+    → (Taken free j && Taken free (j + 1) && Taken free (j + 2) && Taken free (j + 3)
+    && Taken free (j + 4) && Taken free (j + 5) && Taken free (j + 6) && Taken free (j + 7))
+    ≡ eight_taken free j
+unfolding eight_taken taken_from
+eight_is free j l =
+    let z : j + 0 ≡ j = omega arith in
+    rw (le-leb (j + 8) slot_count l, z)
 
 -- ---- the same where a slot is freed
 
@@ -236,6 +249,20 @@ walking_first free receivers n p e none =
       places = omega arith;
       placing = λ ss m q.
           rw (none, ← x.rest, z) (placing_first m ss (members n receivers) q.slots);
+    }
+
+-- no receiver, none to place to
+pub fills_none : (free : List Bool) (n : ℕ) (fills : List Fill)
+    → Fills free 0 n (record { fills = fills; count = 0; looked = 0 })
+unfolding stored placed_each looked_for
+fills_none free n fills =
+    let none = members_none 0 0 n refl in
+    record {
+      few = omega arith;
+      within = λ x l. absurd (omega (arith, l));
+      placed_is = λ ss m q. rw none;
+      looked_is = λ ss q. rw none;
+      enough = λ ss q. rw none (omega arith);
     }
 
 module _ {free : List Bool} {receivers n : ℕ} {p : Placed} {h j : ℕ}

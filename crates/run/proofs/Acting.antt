@@ -42,8 +42,7 @@ use Rattle.slots.specs.Slots.{slot_count, empty_slot, slot_with, is_empty, empti
 use Rattle.slots.specs.Slots.{looked_for, freed, placed, placed_each, slot_refusal}
 use Rattle.cell.specs.declared.Cell.{Cell}
 use Rattle.cell.specs.declared.Event.{Event}
-use Rattle.cell.specs.declared.Event.TheVariants.{AdvanceAll, AdvanceOne, Start, Deliver, Lose}
-use Rattle.cell.specs.declared.Event.TheVariants.{Repeat, Restart, Release}
+use Rattle.cell.specs.declared.Event.TheVariants.{Start, Deliver, Lose, Repeat, Restart, Release}
 use Rattle.cell.specs.CellLimits.{host_at, with_host_at, content_at, cell_ok}
 use Rattle.cell.specs.Claims.{Sized}
 use Rattle.cell.specs.Answered.{Answered, looked_in}
@@ -53,9 +52,7 @@ use Rattle.cell.specs.Events.{step_looked, sent_to, stepped, step_at_refusal, re
 use Rattle.cell.specs.Events.{placing_of, event_of, start_step, release_step, start_at_refusal}
 use Rattle.cell.specs.Events.{release_at_refusal, restart_at_refusal}
 use Rattle.cell.specs.Events.{deliver_step, deliver_refusal, deliver_full, deliver_looked}
-use Rattle.cell.specs.Events.{delivered}
-use Rattle.cell.specs.Events.{advance_all_refusal, advance_one_refusal, lose_refusal}
-use Rattle.cell.specs.Events.{repeat_refusal, repeated}
+use Rattle.cell.specs.Events.{delivered, lose_refusal, repeat_refusal, repeated}
 use Rattle.cell.proofs.CellLimits.{cell_in, host_of_lem, n_of, message_of_lem}
 use Rattle.cell.proofs.Looked.{NotFull, Counted, counted_writes, start_not_full}
 use Rattle.cell.proofs.Looked.{release_not_full, restart_not_full}
