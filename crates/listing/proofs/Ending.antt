@@ -3,7 +3,6 @@
 use mathlib.Core.Path.{◌≡◌, refl, ap}
 use mathlib.Core.List.{List, ◌++◌, append-nil}
 use Prim.Native.Nat.{ℕ}
-use Rattle.base.specs.declared.Fault.{Fault}
 use Rattle.record.specs.declared.Record.{Record as Answer}
 use Rattle.record.specs.Read.{Record, numbered_record}
 use Rattle.lines.specs.Lines.{stop, counts, line_text, text_of}
@@ -11,13 +10,13 @@ use Rattle.listing.specs.Parts.{last_lines}
 
 -- what the `else` of a `let .. else` knows of a record
 abbrev pub NoFault : Answer → Type 0
-NoFault r = (f : Fault) → r ≡ Answer.Fault f → ⊥
+NoFault r = (f o : ℕ) → r ≡ Answer.Fault f o → ⊥
 
 pub no_fault : (at a r : ℕ) (x : Answer) → NoFault x
     → text_of (last_lines at a r (numbered_record x)) ≡ line_text (counts a r)
 unfolding last_lines text_of
 no_fault at a r Answer.End t = append-nil _
-no_fault at a r (Answer.Fault f) t = absurd (t f refl)
+no_fault at a r (Answer.Fault f o) t = absurd (t f o refl)
 no_fault at a r (Answer.Event e next) t = append-nil _
 
 pub last_fault : (at a r f o : ℕ)

@@ -136,8 +136,8 @@ pub fn put_end(page: &mut Page, w: Walk, r: Record)
     ensures { Wrote page.old (text_of (last_lines w.at w.applied w.refused (numbered_record r)))
         page.new }
 {
-    if let Record::Fault(fault) = r {
-        lines::put_stop(page, w.at, fault.refusal.number(), fault.at);
+    if let Record::Fault(number, offset) = r {
+        lines::put_stop(page, w.at, number, offset);
     }
     lines::put_counts(page, w.applied, w.refused);
 }

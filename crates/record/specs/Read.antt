@@ -30,7 +30,7 @@ pub data First : Type 0 where
 
 abbrev pub numbered_record : Answer → Record
 numbered_record Answer.End = Record.End
-numbered_record (Answer.Fault f) = Record.Fault (refusal_number f.refusal) f.at
+numbered_record (Answer.Fault f o) = Record.Fault f o
 numbered_record (Answer.Event e next) = Record.Event e next
 
 abbrev pub numbered_first : Result (Settings × ℕ) base.Fault → First

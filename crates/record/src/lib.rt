@@ -17,11 +17,12 @@ use std::cmp::Ordering;
 
 // The file's end; the fault, its offset counted from the record's start; or an event and the offset
 // of the next record. It has three cases, and document 01 has them taken apart by let .. else: the
-// event goes on, the fault ends the run.
+// event goes on, the fault ends the run. The fault is told by a plain number, as a listing tells
+// it: with a `Refusal` in it, `listing::put_end` and `run::play` would ask more of whoever calls.
 #[derive(Clone, Copy)]
 pub enum Record {
     End,
-    Fault(Fault),
+    Fault(u8, usize),
     Event(Event, usize),
 }
 
@@ -180,7 +181,7 @@ pub fn record_at(run: &[u8], at: usize) -> Record
     }
     match head_at(run, at, false) {
         Ok((kind, next)) => Record::Event(event_at(run, at, kind), next),
-        Err(fault) => Record::Fault(fault),
+        Err(fault) => Record::Fault(fault.refusal.number(), fault.at),
     }
 }
 

@@ -179,7 +179,7 @@ no_events : (run : List ℕ) (at : ℕ) (r : Answer) → NoEvent r
     → events_after run at (numbered_record r) ≡ []
 unfolding events_of
 no_events run at Answer.End t = refl
-no_events run at (Answer.Fault f) t = refl
+no_events run at (Answer.Fault f o) t = refl
 no_events run at (Answer.Event e next) t = absurd (t e next refl)
 
 last_lines_lem : (run : List ℕ) (at a k : ℕ) (r : Answer) → NoEvent r
@@ -187,7 +187,7 @@ last_lines_lem : (run : List ℕ) (at a k : ℕ) (r : Answer) → NoEvent r
     ≡ stop_lines (script_after run at (numbered_record r)) ++ (counts a k ∷ [])
 unfolding last_lines stop_lines
 last_lines_lem run at a k Answer.End t = refl
-last_lines_lem run at a k (Answer.Fault f) t = refl
+last_lines_lem run at a k (Answer.Fault f o) t = refl
 last_lines_lem run at a k (Answer.Event e next) t = absurd (t e next refl)
 
 pub going_end : {c₀ : Cell} {first : Record} {run out₀ : List ℕ} {from : ℕ} {c : Cell} {r : Answer}

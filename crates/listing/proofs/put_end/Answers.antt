@@ -7,7 +7,7 @@ use Rattle.listing.proofs.put_end.Goals.{in-Fault, in_default}
 pub returns : goal.returns
 returns c =
     elim c.match-r.branch [
-      | in-Fault w ↦ rw (w.in-Fault.is, ← w.number.ensures, last_fault _ _ _ _ _)
+      | in-Fault w ↦ rw (w.in-Fault.is, last_fault _ _ _ _ _)
           (wrote_then w.put_stop.ensures.wrote (rw w.page-is at c.put_counts.ensures))
       | in_default w ↦ rw (no_fault _ _ _ c.args.r w.in_default.not-Fault)
           (rw w.page-is at c.put_counts.ensures)
