@@ -32,7 +32,10 @@ ghost use Rattle.rules.specs.Rules.{higher_of, kept_after, own_end, value_to_pro
 ghost use Rattle.rules.specs.Rules.{is_namable, named_by, after_accept, is_waiting, may_learn};
 ghost use Rattle.rules.specs.Rules.{names_itself, takes_release, is_freed, freed, after_release};
 
-use message::{Ballot, Head, Holder, HoldersEnd, KeepersEnd, LearnedLease, Lease, LeaseUntil};
+use message::{Ballot, Head, HoldersEnd, KeepersEnd, LearnedLease, Lease, LeaseUntil};
+
+// Who is named goes by rules of this crate, and by its name too.
+pub use message::Holder;
 
 // The owner and the end of a lease to propose: in the field's word the value of a proposal.
 #[derive(Clone, Copy)]
