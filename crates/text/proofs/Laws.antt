@@ -151,6 +151,12 @@ pub decimal_count : (k n : ℕ) → 10 ^ k ≤ n → n < 10 * 10 ^ k → n < 2 ^
 decimal_count k n l m f =
     rw (decimal_std n f) (decimal_by_steps Counted counted_one counted_more n f k l m)
 
+-- a number below that power has room before where so many digits end
+pub digits_fit : (at k n : ℕ) → n < 10 * 10 ^ k → n < 2 ^ 64
+    → length (Fmt.decimal n) ≤ at + k + 1
+digits_fit at k n h f =
+    omega (arith, length-decimal-le (suc k) n (omega arith) (rw (pow_ten k) h) f)
+
 -- ---- text put at an offset
 
 -- one byte
@@ -176,16 +182,16 @@ put_part o at k bytes part e h q =
     (put_mid-paste at k o part bytes (length bytes) q (sym e) refl
     ∙ paste_all o at bytes (length bytes) refl)
 
--- what the library's digits leave, where the room for them ends
-pub put_digits : (o o₁ : List ℕ) (at n end start : ℕ) → n < 2 ^ 64
+-- what the library's digits leave, where the room for them ends, and it was handed n
+pub put_digits : (o o₁ : List ℕ) (at n m end start : ℕ) → n < 2 ^ 64 → m ≡ n
     → at + length (decimal n) ≤ length o → end ≡ at + length (decimal n)
-    → start + length (Fmt.decimal n) ≡ end → drop start o₁ ≡ Fmt.decimal n ++ drop end o
+    → start + length (Fmt.decimal m) ≡ end → drop start o₁ ≡ Fmt.decimal m ++ drop end o
     → take start o₁ ≡ take start o → Put o at (decimal n) end o₁
-put_digits o o₁ at n end start f h e g d t =
+put_digits o o₁ at n m end start f q h e g d t =
     let same = decimal_std n f in
-    let there : start ≡ at = omega (arith, ap length same) in
+    let there : start ≡ at = omega (arith, ap length same, rw q at g) in
     let back : drop at o₁ ≡ decimal n ++ drop (at + length (decimal n)) o =
-    rw (there, e, ← same) at d in
+    rw (q, there, e, ← same) at d in
     rw e
     (put_over o o₁ (decimal n) at h
     (sym (take-append-drop at o₁)

@@ -4,7 +4,7 @@ use native.Mathlib.Omega.{arith}
 use lib.ListN.{length}
 use Prim.Native.Nat.{◌+◌}
 use Rattle.text.specs.Text.{decimal}
-use Rattle.text.proofs.Laws.{decimal_one, decimal_count, decimal_std, put_digits, wrote}
+use Rattle.text.proofs.Laws.{decimal_one, decimal_count, digits_fit, put_digits, wrote}
 use Rattle.text.proofs.Page.decimal.Goals as goal
 use Rattle.text.proofs.Page.decimal.Goals.{After-ilog10}
 
@@ -19,16 +19,19 @@ count : (c : After-ilog10) → c.ilog10.result + 1 ≡ length (decimal c.args.n)
 count c =
     let l = c.ilog10.ensures in decimal_count _ _ l.power_le l.next_power_gt c.ranges.n.fits
 
-pub write_digits-requires : goal.write_digits-requires
-write_digits-requires c =
-    let n = count (goal.at.write_digits-requires c).After-ilog10 in
-    let same = ap length (decimal_std c.args.n c.ranges.n.fits) in
-    (omega (arith, n, same), omega (arith, n, c.requires))
-
+-- by what is handed to it, which is n
 pub returns : goal.returns
 returns c =
     let w = c.write_digits.ensures in
     wrote
-    (put_digits _ _ _ _ _ _ c.ranges.n.fits c.requires
+    (put_digits _ _ _ _ _ _ _ c.ranges.n.fits (omega arith) c.requires
     (omega (arith, count (goal.at.returns c).After-ilog10)) w.start w.written w.before)
     refl
+
+pub write_digits-requires : goal.write_digits-requires
+write_digits-requires c =
+    let l = c.ilog10.ensures in
+    let n = count (goal.at.write_digits-requires c).After-ilog10 in (
+      digits_fit _ _ _ (omega (arith, l.next_power_gt)) (omega (arith, c.ranges.n.fits)),
+      omega (arith, n, c.requires),
+    )
