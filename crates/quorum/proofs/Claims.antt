@@ -1,7 +1,8 @@
 -- The claims of specs/Claims.antt, proved. Assumes nothing.
-use Prim.Native.Nat.{ℕ, ◌^◌}
+use Prim.Native.Nat.{ℕ, ◌^◌, ◌<◌}
 use mathlib.Core.Path.{◌≡◌, ap}
 use mathlib.Core.Bool.{true}
+use native.Mathlib.Omega.{arith}
 use lib.Dec.{eqb}
 use borrow.Author.Tests.{ltb-true, eqb-true, eq-eqb}
 use Rattle.quorum.specs.Sets.{bit, is_below, is_majority, Member}
@@ -13,7 +14,9 @@ meets : (n s t : ℕ) → is_below s n ≡ true → is_below t n ≡ true → is
     → is_majority n t ≡ true
     → (h : ℕ) × Member n s h × Member n t h
 meets n s t a b p q =
-    let m = majorities_meet n s t (ltb-true s (2 ^ n) a) (ltb-true t (2 ^ n) b) p q in (
+    let low : s < 2 ^ n = omega (arith, ltb-true _ _ a) in
+    let less : t < 2 ^ n = omega (arith, ltb-true _ _ b) in
+    let m = majorities_meet n s t low less p q in (
       m.0,
       record { below = m.1; within = eq-eqb _ _ m.2 },
       record { below = m.1; within = eq-eqb _ _ m.3 },
