@@ -1,5 +1,6 @@
 -- `advance_all` moves every host where `all_refusal` refuses nothing.
 use mathlib.Core.Path.{◌≡◌, refl, sym}
+use Prim.Native.Nat.{◌<◌}
 use native.Mathlib.Omega.{arith}
 use borrow.Author.Rules.{rules}
 use Rattle.std.specs.declared.result.Result.{Result}
@@ -28,8 +29,12 @@ loop-h-init c = refl
 pub advanced_host-requires : goal.advanced_host-requires
 unfolding answer_of
 advanced_host-requires c =
-    next_room _ c.requires _ _ _ (sym c.in_ok-all_refusal.ensures) c.loop-h.invariant
-    (omega (arith, c.loop-h-test.true, as_many _ c.requires))
+    let i : c.loop-h.h-index < c.args.c.now.settings.n =
+    omega (arith, c.loop-h-test.true, as_many _ c.requires) in
+    omega (
+      arith,
+      next_room _ c.requires _ _ _ (sym c.in_ok-all_refusal.ensures) c.loop-h.invariant i,
+    )
 
 pub loop-h-preserved : goal.loop-h-preserved
 loop-h-preserved c =

@@ -23,7 +23,7 @@ bounds-c-who c =
 pub advanced_host-requires : goal.advanced_host-requires
 unfolding answer_of
 advanced_host-requires c =
-    (one_room _ c.requires _ _ (sym c.in_ok-one_refusal.ensures)).1
+    omega (arith, (one_room _ c.requires _ _ (sym c.in_ok-one_refusal.ensures)).1)
 
 pub bounds-c-who-2 : goal.bounds-c-who-2
 unfolding answer_of
