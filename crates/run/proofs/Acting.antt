@@ -167,10 +167,23 @@ module _ (x : Running) (f : Option ℕ) (room : Room x f) where
       abbrev after : Running
       after = freed_of (record x { placed = p }) f
 
-      pub found_in : r ≡ Result.Ok tt → Found after
-      found_in e =
-          let l = fits e in
-          record { frees = now_free; few = omega (arith, l.few, room.few); within = l.within }
+      -- slots are found in either case, without room none
+      pub found_in : Found after
+      unfolding Outcome
+      found_in =
+          ⊎_elim
+          (λ y.
+          record {
+            frees = now_free;
+            few = omega (arith, y.1.few, room.few);
+            within = y.1.within;
+          })
+          (λ y.
+          record {
+            frees = now_free;
+            few = omega (arith, y.1.0);
+            within = λ i b. absurd (omega (arith, y.1.0, b));
+          }) w
 
       pub sends : (y : Running) → r ≡ Result.Ok tt → Filled after s y
           → Sends x.cell f (Some s) (Result.Ok tt) y

@@ -13,10 +13,9 @@ returns-in_err-place c =
 
 pub fill-requires : goal.fill-requires
 fill-requires c =
-    rw c.free.ensures
-    (found_in _ _ c.requires c.args.sent.now _ _ c.place.ensures c.in_ok-place.was)
+    rw c.free.ensures (found_in _ _ c.requires c.args.sent.now _ _ c.place.ensures)
 
 pub returns : goal.returns
 returns c =
-    sends _ _ c.requires _ _ _ c.place.ensures _ c.in_ok-place.was
-    (rw c.free.ensures at c.fill.ensures)
+    let e : c.place.result ≡ Result.Ok tt = search rules in
+    sends _ _ c.requires _ _ _ c.place.ensures _ e (rw c.free.ensures at c.fill.ensures)
