@@ -3,6 +3,8 @@
 use mathlib.Core.Path.{◌≡◌, refl, ap}
 use mathlib.Core.List.{List, ◌++◌, append-nil}
 use Prim.Native.Nat.{ℕ}
+use Rattle.text.specs.declared.Page.{Page}
+use Rattle.text.specs.Parts.{Wrote}
 use Rattle.record.specs.declared.Record.{Record as Answer}
 use Rattle.record.specs.Read.{Record, numbered_record}
 use Rattle.lines.specs.Lines.{stop, counts, line_text, text_of}
@@ -24,3 +26,9 @@ pub last_fault : (at a r f o : ℕ)
     ≡ line_text (stop at f o) ++ line_text (counts a r)
 unfolding last_lines text_of
 last_fault at a r f o = ap (λ (bytes : List ℕ). line_text (stop at f o) ++ bytes) (append-nil _)
+
+-- the last lines are written where the stop tells the number that the fault has
+pub last_wrote : {before after : Page} (at a r f g o : ℕ) → f ≡ g
+    → Wrote before (line_text (stop at g o) ++ line_text (counts a r)) after
+    → Wrote before (text_of (last_lines at a r (Record.Fault f o))) after
+last_wrote at a r f g o e w = rw (last_fault at a r f o, e) w
