@@ -428,6 +428,11 @@ module _ (c : Cell) (g : Sound c) where
   unfolding refusal_of placing_of
   all_refused d a e m = event_unplaced c (AdvanceAll d) a (sym e) m refl
 
+  -- the same of a cell that is left as it was
+  pub all_kept : (d a : ℕ) (after : Cell) → after ≡ c → a ≡ advance_all_refusal c d
+      → (a ≡ done → ⊥) → answered_with a 0 after ≡ event_of c (AdvanceAll d)
+  all_kept d a after k e m = rw k (all_refused d a e m)
+
   -- what one_refusal passes
   pub one_room : (h d : ℕ) → advance_one_refusal c h d ≡ done → (h < n) × (clock h + d ≤ last_tick)
   one_room h d e = go (dec_lt h n)
@@ -449,3 +454,7 @@ module _ (c : Cell) (g : Sound c) where
       → answered_with a 0 c ≡ event_of c (AdvanceOne h d)
   unfolding refusal_of placing_of
   one_refused h d a e m = event_unplaced c (AdvanceOne h d) a (sym e) m refl
+
+  pub one_kept : (h d a : ℕ) (after : Cell) → after ≡ c → a ≡ advance_one_refusal c h d
+      → (a ≡ done → ⊥) → answered_with a 0 after ≡ event_of c (AdvanceOne h d)
+  one_kept h d a after k e m = rw k (one_refused h d a e m)

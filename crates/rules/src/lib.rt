@@ -34,7 +34,7 @@ ghost use Rattle.rules.specs.Rules.{names_itself, takes_release, is_freed, freed
 
 use message::{Ballot, Head, HoldersEnd, KeepersEnd, LearnedLease, Lease, LeaseUntil};
 
-// Who is named goes by rules of this crate, and by its name too.
+// The holder that `named_by` and `named_at` speak of: it is `message`'s, by this crate's name too.
 pub use message::Holder;
 
 // The owner and the end of a lease to propose: in the field's word the value of a proposal.

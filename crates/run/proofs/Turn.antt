@@ -2,7 +2,7 @@
 -- Assumes nothing.
 use mathlib.Core.Path.{◌≡◌, refl}
 use mathlib.Core.Bool.{Bool, false}
-use mathlib.Core.List.{List, [], ◌∷◌}
+use mathlib.Core.List.{List, [], ◌∷◌, ◌++◌}
 use Prim.Native.Nat.{ℕ, zero, suc, ◌+◌, ◌-◌, ◌≤◌, ◌<◌}
 use native.Mathlib.Omega.{arith}
 use lib.ListN.{length, get_or, set, take}
@@ -10,6 +10,7 @@ use lib.Seq.{get_or-set_same}
 use Rattle.std.specs.Prelude.{Option, Some, None}
 use Rattle.std.proofs.lemmas.List.{get_or-take}
 use Rattle.message.specs.declared.Message.{Message}
+use Rattle.message.specs.Leases.{Holder}
 use Rattle.message.specs.Message.{addressed_to}
 use Rattle.text.specs.Parts.{Put}
 use Rattle.text.proofs.Laws.{Todo, put_then, todo_end}
@@ -24,8 +25,8 @@ use Rattle.cell.specs.Events.{answered_with}
 use Rattle.placing.specs.declared.Fill.{Fill}
 use Rattle.placing.specs.Parts.{Frees, no_fill, stored}
 use Rattle.lines.specs.Lines as lines
-use Rattle.lines.specs.Lines.{names_from, names_text, event_head, line_text}
-use Rattle.lines.proofs.Laws.{names_end}
+use Rattle.lines.specs.Lines.{name_text, names_from, names_text, event_head, line_text}
+use Rattle.lines.proofs.Laws.{names_step, names_end}
 use Rattle.listing.specs.Listing.{names_of}
 use Rattle.run.proofs.Acting.{stored_in}
 use Rattle.run.proofs.Playing.{cell_with}
@@ -82,6 +83,12 @@ beside a k s x r q e = rw (r, q) e
 abbrev pub due : List Host → ℕ → ℕ → List ℕ
 due hosts n q = names_text (names_from hosts (n - q) q)
 
+-- one name more, which is the next host's
+pub due_on : (hosts : List Host) (n q : ℕ) (m : Option Holder) → q < n
+    → m ≡ (get_or hosts q blank_host).state.named
+    → due hosts n q ≡ (32 ∷ name_text m) ++ due hosts n (q + 1)
+due_on hosts n q m b e = rw e (names_step hosts n q b)
+
 -- the first n hosts name what all of them name
 names_front : (n k i : ℕ) (hs : List Host) → i + k ≤ n
     → names_from (take n hs) k i ≡ names_from hs k i
@@ -104,3 +111,13 @@ line c place kind answer q p t b l u =
     let whole : n - 0 ≡ n = omega arith in
     let same = names_front n n 0 c.hosts (omega arith) in
     put_then p (put_then (rw (whole, same) at (todo_end t (names_end hosts n q b) l)) u)
+
+-- the same of hosts that are the first n
+pub line_of : {out out₁ out₂ out₃ : List ℕ} {pos end₀ end r : ℕ} (c : Cell) (hosts : List Host)
+    (place kind answer q : ℕ) → hosts ≡ take c.settings.n c.hosts
+    → Put out pos (event_head place kind answer) end₀ out₁
+    → Todo out₂ end (due hosts c.settings.n q) out₁ end₀ (due hosts c.settings.n 0)
+    → c.settings.n ≤ q → end ≤ length out₂ → Put out₂ end (10 ∷ []) r out₃
+    → Put out pos (line_text (lines.event place kind answer (names_of c))) r out₃
+line_of c hosts place kind answer q e p t b l u =
+    line c place kind answer q p (rw e at t) b l u

@@ -48,7 +48,8 @@ pub fn play(cell: Cell, first: Record, run: &[u8], page: &mut Page) -> Played
         let answer = base::answer_of(running.event(e));
         listing::put_line_head(page, w, e, answer);
         let n = running.cell.settings.n as usize;
-        for host in &running.cell.hosts[..n] {
+        let hosts = &running.cell.hosts[..n];
+        for host in hosts {
             lines::put_name(page, host.state.named);
         }
         page.byte(b'\n');

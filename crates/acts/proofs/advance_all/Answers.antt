@@ -4,11 +4,12 @@ use Prim.Native.Nat.{◌<◌}
 use native.Mathlib.Omega.{arith}
 use borrow.Author.Rules.{rules}
 use Rattle.std.specs.declared.result.Result.{Result}
+use Rattle.std.proofs.lemmas.List.{set-get_or}
 use Rattle.base.specs.Answers.{answer_of}
 use Rattle.host.specs.declared.Host.{Host}
 use Rattle.host.specs.Steps.{advanced_host}
 use Rattle.places.specs.Places.{each_host}
-use Rattle.acts.proofs.Advances.{few, not_done, all_refused, next_room, moves_next, all_moved}
+use Rattle.acts.proofs.Advances.{few, not_done, all_kept, next_room, moves_next, all_moved}
 use Rattle.acts.proofs.Advances.{each_front, as_many}
 use Rattle.acts.proofs.advance_all.Goals as goal
 
@@ -17,7 +18,9 @@ unfolding answer_of
 returns-in_err-all_refusal c =
     let k = c.in_err-all_refusal.field-0.0 in
     let e : c.from_residual.result ≡ Result.Err k = search rules in
-    rw e (all_refused _ c.requires _ _ c.in_err-all_refusal.ensures (not_done k))
+    rw e
+    (all_kept _ c.requires _ _ _ (search (rules, set-get_or)) c.in_err-all_refusal.ensures
+    (not_done k))
 
 pub slice_bounds-h-items-end : goal.slice_bounds-h-items-end
 slice_bounds-h-items-end c = few _ c.requires

@@ -3,8 +3,9 @@ use mathlib.Core.Path.{◌≡◌, sym}
 use native.Mathlib.Omega.{arith}
 use borrow.Author.Rules.{rules}
 use Rattle.std.specs.declared.result.Result.{Result}
+use Rattle.std.proofs.lemmas.List.{set-get_or}
 use Rattle.base.specs.Answers.{answer_of}
-use Rattle.acts.proofs.Advances.{few, not_done, one_refused, one_room, one_moved}
+use Rattle.acts.proofs.Advances.{few, not_done, one_kept, one_room, one_moved}
 use Rattle.acts.proofs.advance_one.Goals as goal
 
 pub returns-in_err-one_refusal : goal.returns-in_err-one_refusal
@@ -12,7 +13,9 @@ unfolding answer_of
 returns-in_err-one_refusal c =
     let k = c.in_err-one_refusal.field-0.0 in
     let e : c.from_residual.result ≡ Result.Err k = search rules in
-    rw e (one_refused _ c.requires _ _ _ c.in_err-one_refusal.ensures (not_done k))
+    rw e
+    (one_kept _ c.requires _ _ _ _ (search (rules, set-get_or)) c.in_err-one_refusal.ensures
+    (not_done k))
 
 pub bounds-c-who : goal.bounds-c-who
 unfolding answer_of

@@ -4,14 +4,14 @@ use mathlib.Core.Path.{◌≡◌, refl, ◌∙◌}
 use Prim.Native.Nat.{◌+◌, ◌≤◌, ◌<◌}
 use native.Mathlib.Omega.{arith}
 use lib.ListN.{length, take}
-use Rattle.std.proofs.lemmas.List.{length-take-le}
+use borrow.Author.Rules.{rules}
+use Rattle.std.proofs.lemmas.List.{length-take-le, get_or-take, get_or-drop}
 use Rattle.text.proofs.Laws.{todo_begin, todo_step}
 use Rattle.cell.proofs.CellLimits.{n_of}
-use Rattle.lines.proofs.Laws.{names_step}
 use Rattle.listing.specs.Parts.{walked_to}
 use Rattle.run.proofs.Playing.{going_first, going_count, going_room, going_nearer, going_turn}
 use Rattle.run.proofs.Playing.{going_end}
-use Rattle.run.proofs.Turn.{line}
+use Rattle.run.proofs.Turn.{due_on, line_of}
 use Rattle.run.proofs.play.Goals as goal
 use Rattle.run.proofs.play.Goals.{After-event, After-put_line_head}
 
@@ -58,11 +58,13 @@ put_line_head-requires c =
       ),
     )
 
-pub shared_ref_as_front-host-items : goal.shared_ref_as_front-host-items
-shared_ref_as_front-host-items c = few (goal.at.shared_ref_as_front-host-items c).After-event
+pub shared_ref_as_front-hosts : goal.shared_ref_as_front-hosts
+shared_ref_as_front-hosts c = few (goal.at.shared_ref_as_front-hosts c).After-event
 
 pub loop-host-init : goal.loop-host-init
-loop-host-init c = (refl, refl, omega arith, todo_begin _ _ _)
+loop-host-init c =
+    let all = many (goal.at.loop-host-init c).After-event in
+    (search (rules, all), refl, refl, omega arith, todo_begin _ _ _)
 
 pub put_name-requires : goal.put_name-requires
 put_name-requires c =
@@ -70,7 +72,7 @@ put_name-requires c =
     omega (
       arith,
       c.loop-host-test.true,
-      many (goal.at.put_name-requires c).After-event,
+      c.loop-host.invariant.0,
       few (goal.at.put_name-requires c).After-event,
       c.loop-r.invariant.1,
       c.put_line_head.ensures.short,
@@ -83,13 +85,12 @@ loop-host-preserved c =
     let l = c.loop-host in
     let d = c.event.new.self.cell in
     let w = c.put_name.ensures.wrote in
-    let b : l.host-index < d.settings.n =
-    omega (arith, c.loop-host-test.true, many (goal.at.loop-host-preserved c).After-event) in (
-      w.many ∙ l.invariant.0,
-      w.same ∙ l.invariant.1,
-      omega (arith, c.put_name.ensures.short, l.invariant.2, b),
-      todo_step l.invariant.3
-          (names_step (take d.settings.n d.hosts) d.settings.n l.host-index b) w.put,
+    let b : l.host-index < d.settings.n = omega (arith, c.loop-host-test.true, l.invariant.0) in (
+      l.invariant.0,
+      w.many ∙ l.invariant.1,
+      w.same ∙ l.invariant.2,
+      omega (arith, c.put_name.ensures.short, l.invariant.3, b),
+      todo_step l.invariant.4 (due_on _ d.settings.n l.host-index _ b refl) w.put,
     )
 
 pub byte-requires : goal.byte-requires
@@ -119,15 +120,16 @@ loop-r-preserved c =
     let d = c.event.new.self.cell in
     let head = c.put_line_head.ensures in
     let all : d.settings.n ≤ l.host-index =
-    omega (arith, c.loop-host-test.false, many (goal.at.loop-r-preserved c).After-event) in
+    omega (arith, c.loop-host-test.false, l.invariant.0) in
     let room = going_room g e next c.in-Event.is c.requires.room in
     let written =
-    line d _ _ _ l.host-index (rw c.loop-r.invariant.1 at head.wrote.put) l.invariant.3 all
+    line_of d _ _ _ _ l.host-index (search (rules, get_or-take, get_or-drop))
+    (rw c.loop-r.invariant.1 at head.wrote.put) l.invariant.4 all
     (omega (
       arith,
       few (goal.at.loop-r-preserved c).After-event,
-      l.invariant.0,
-      l.invariant.2,
+      l.invariant.1,
+      l.invariant.3,
       c.loop-r.invariant.1,
       head.short,
       head.wrote.many,
@@ -138,13 +140,13 @@ loop-r-preserved c =
       arith,
       few (goal.at.loop-r-preserved c).After-event,
       c.byte.ensures.put.past,
-      l.invariant.2,
+      l.invariant.3,
       c.loop-r.invariant.1,
       head.short,
     ) in (
       c.event.ensures.ready.frees,
       rw c.walked-w.ensures refl,
-      c.byte.ensures.same ∙ l.invariant.1 ∙ head.wrote.same ∙ c.loop-r.invariant.2,
+      c.byte.ensures.same ∙ l.invariant.2 ∙ head.wrote.same ∙ c.loop-r.invariant.2,
       rw c.walked-w.ensures
           (going_turn g e next c.in-Event.is d _ _ _ _ _
           (rw (← c.answer_of-answer.ensures) at c.event.ensures.is) written short

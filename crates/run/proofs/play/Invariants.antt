@@ -14,8 +14,8 @@ use Rattle.run.proofs.play.Given as goal
 -- each name takes 4 bytes at most
 abbrev pub invariant-loop-host : goal.invariant-loop-host
 invariant-loop-host l =
-    let hosts = l.host-items in
-    (length l.page.out.now ≡ length l.initial.page.out.now)
+    let hosts = l.hosts in
+    (l.host-index-end ≡ l.n) × (length l.page.out.now ≡ length l.initial.page.out.now)
     × (l.page.out.ghost_name ≡ l.initial.page.out.ghost_name)
     × (l.page.at + 4 * (l.n - l.host-index) ≤ l.initial.page.at + 4 * l.n)
     × Todo l.page.out.now l.page.at (due hosts l.n l.host-index) l.initial.page.out.now
