@@ -1,5 +1,5 @@
--- A turn of the run: what an event of it changes, stored by stored, and the line that it writes.
--- Assumes nothing.
+-- A turn of the run: what an event of it leaves stored, and the line that it writes. Assumes
+-- nothing.
 use mathlib.Core.Path.{◌≡◌, refl}
 use mathlib.Core.Bool.{Bool, false}
 use mathlib.Core.List.{List, [], ◌∷◌, ◌++◌}
